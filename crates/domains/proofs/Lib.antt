@@ -1,0 +1,3 @@
+pub mod CountsLaws
+pub mod MaskLaws
+pub mod MasksLaws

@@ -1,0 +1,88 @@
+/// The upper of a row that has no upper bound.
+const NO_UPPER: u16 = 65535;
+
+/// A book to be written: slots, types, a mask for each slot, and rows.
+///
+/// It writes what it is given and judges nothing; [`check`](crate::check) does.
+///
+/// ```
+/// use nested_gcc::Book;
+///
+/// let book = Book::new(2, 2).mask(1, 0b10).row(0, 2, 0, Some(1));
+/// assert_eq!(
+///     book.to_bytes(),
+///     [
+///         2, 0, 2, 0, 1, 0, 12, 0, 20, 0, 28, 0, // n, k, 0, r, masks at, rows at, length
+///         3, 0, 0, 0, 2, 0, 0, 0, // masks
+///         0, 0, 2, 0, 0, 0, 1, 0, // type, 0, end, lower, upper
+///     ]
+/// );
+/// ```
+#[derive(Clone, Debug)]
+pub struct Book {
+    /// k.
+    types: u8,
+    /// One for each slot; n is their count.
+    masks: Vec<u32>,
+    rows: Vec<Row>,
+}
+
+/// Of `board_type`, the first `end` slots have at least `lower` and at most `upper`.
+#[derive(Clone, Debug)]
+struct Row {
+    board_type: u8,
+    end: u16,
+    lower: u16,
+    upper: u16,
+}
+
+impl Book {
+    /// A book without rows, whose slots may have each of the types 0 to `types` - 1.
+    pub fn new(slots: u16, types: u8) -> Book {
+        let every_type = if types < 32 { (1 << types) - 1 } else { u32::MAX };
+        Book { types, masks: vec![every_type; slots.into()], rows: Vec::new() }
+    }
+
+    /// Sets the slot's mask: bit v says that type v may go there.
+    ///
+    /// # Panics
+    ///
+    /// If the book has no such slot.
+    pub fn mask(mut self, slot: usize, bits: u32) -> Book {
+        self.masks[slot] = bits;
+        self
+    }
+
+    /// Adds a row: the first `end` slots have at least `lower` of type `board_type` and at most `upper`, where
+    /// `None` means no upper bound, as 65535 does.
+    pub fn row(mut self, board_type: u8, end: u16, lower: u16, upper: Option<u16>) -> Book {
+        let upper = upper.unwrap_or(NO_UPPER);
+        self.rows.push(Row { board_type, end, lower, upper });
+        self
+    }
+
+    /// The bytes of the book. A count, offset or length past 16 bits is cut to them; such a book is
+    /// refused, since its counts are out of range or its length is not the one written.
+    pub fn to_bytes(&self) -> Vec<u8> {
+        let masks_at = 12;
+        let rows_at = masks_at + 4 * self.masks.len();
+        let length = rows_at + 8 * self.rows.len();
+        let mut bytes = Vec::with_capacity(length);
+        bytes.extend((self.masks.len() as u16).to_le_bytes());
+        bytes.extend([self.types, 0]);
+        bytes.extend((self.rows.len() as u16).to_le_bytes());
+        for place in [masks_at, rows_at, length] {
+            bytes.extend((place as u16).to_le_bytes());
+        }
+        for mask in &self.masks {
+            bytes.extend(mask.to_le_bytes());
+        }
+        for row in &self.rows {
+            bytes.extend([row.board_type, 0]);
+            for field in [row.end, row.lower, row.upper] {
+                bytes.extend(field.to_le_bytes());
+            }
+        }
+        bytes
+    }
+}

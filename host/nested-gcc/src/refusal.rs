@@ -1,0 +1,70 @@
+use std::error::Error;
+use std::fmt;
+
+/// What an exported function adds to a refusal's number.
+const REFUSED: u32 = 256;
+
+/// Why a book is refused.
+///
+/// ```
+/// use nested_gcc::Refusal;
+///
+/// assert_eq!(Refusal::RowEnd.number(), 7);
+/// assert_eq!(Refusal::RowEnd.to_string(), "end 0 or above n");
+/// ```
+#[derive(Clone, Copy, Debug, PartialEq, Eq, Hash)]
+#[non_exhaustive]
+pub enum Refusal {
+    /// 1: book under 12 bytes.
+    TooShort,
+    /// 2: n, k or r out of range.
+    OutOfRange,
+    /// 3: byte 3 not 0.
+    ReservedByte,
+    /// 4: an offset or length differs, or the lent length does.
+    Layout,
+    /// 5: mask 0, or a bit from k up.
+    Mask,
+    /// 6: row type k or more, or its second byte not 0.
+    RowType,
+    /// 7: end 0 or above n.
+    RowEnd,
+    /// 8: lower above 256; upper above 256, not 65535.
+    RowBound,
+}
+
+/// Each refusal with its number and its words.
+const TABLE: [(Refusal, u32, &str); 8] = [
+    (Refusal::TooShort, 1, "book under 12 bytes"),
+    (Refusal::OutOfRange, 2, "n, k or r out of range"),
+    (Refusal::ReservedByte, 3, "byte 3 not 0"),
+    (Refusal::Layout, 4, "an offset or length differs, or the lent length does"),
+    (Refusal::Mask, 5, "mask 0, or a bit from k up"),
+    (Refusal::RowType, 6, "row type k or more, or its second byte not 0"),
+    (Refusal::RowEnd, 7, "end 0 or above n"),
+    (Refusal::RowBound, 8, "lower above 256; upper above 256, not 65535"),
+];
+
+impl Refusal {
+    /// The refusal that an exported function answers as 256 + its number.
+    pub(crate) fn from_answer(answer: u32) -> Option<Refusal> {
+        TABLE.iter().find(|row| REFUSED + row.1 == answer).map(|row| row.0)
+    }
+
+    fn row(self) -> &'static (Refusal, u32, &'static str) {
+        TABLE.iter().find(|row| row.0 == self).expect("each refusal has a row")
+    }
+
+    /// The refusal's number, from 1.
+    pub fn number(self) -> u32 {
+        self.row().1
+    }
+}
+
+impl fmt::Display for Refusal {
+    fn fmt(&self, f: &mut fmt::Formatter<'_>) -> fmt::Result {
+        f.write_str(self.row().2)
+    }
+}
+
+impl Error for Refusal {}

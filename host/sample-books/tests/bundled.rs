@@ -1,0 +1,95 @@
+//! The files of data/books are the generator's, and are what their names say.
+
+use std::collections::BTreeMap;
+use std::fs;
+use std::path::Path;
+
+/// The files of data/books: each name, without `.bin`, with its bytes.
+fn bundled() -> BTreeMap<String, Vec<u8>> {
+    let folder = Path::new(env!("CARGO_MANIFEST_DIR")).join("../../data/books");
+    let mut files = BTreeMap::new();
+    for entry in fs::read_dir(&folder).expect("data/books can be listed") {
+        let path = entry.expect("data/books can be listed").path();
+        let name = path.file_name().unwrap().to_str().unwrap();
+        let name = name.strip_suffix(".bin").expect("each file is a .bin");
+        files.insert(name.to_string(), fs::read(&path).expect("each file can be read"));
+    }
+    files
+}
+
+#[test]
+fn files_are_the_generators() {
+    let made = sample_books::samples().into_iter();
+    let made: BTreeMap<_, _> = made.map(|s| (s.name.to_string(), s.bytes)).collect();
+    assert!(bundled() == made, "write them anew: cargo run -p sample-books -- ../data/books");
+}
+
+/// The worked table's books typed byte by byte: n, k, 0, r, masks at, rows at, length; then the masks; then
+/// for each row type, 0, end, lower, upper.
+#[test]
+fn files_have_the_bytes_of_document_01() {
+    let files = bundled();
+    let m1 = [1, 0, 1, 0, 0, 0, 12, 0, 16, 0, 16, 0, 1, 0, 0, 0];
+    let m2 = [
+        5, 0, 2, 0, 1, 0, 12, 0, 32, 0, 40, 0, //
+        3, 0, 0, 0, 3, 0, 0, 0, 3, 0, 0, 0, 3, 0, 0, 0, 3, 0, 0, 0, //
+        0, 0, 4, 0, 2, 0, 255, 255,
+    ];
+    let m3 = [
+        5, 0, 2, 0, 1, 0, 12, 0, 32, 0, 40, 0, //
+        3, 0, 0, 0, 3, 0, 0, 0, 3, 0, 0, 0, 3, 0, 0, 0, 3, 0, 0, 0, //
+        0, 0, 4, 0, 0, 0, 2, 0,
+    ];
+    let m4 = [
+        5, 0, 3, 0, 2, 0, 12, 0, 32, 0, 48, 0, //
+        7, 0, 0, 0, 7, 0, 0, 0, 7, 0, 0, 0, 7, 0, 0, 0, 7, 0, 0, 0, //
+        1, 0, 5, 0, 2, 0, 255, 255, //
+        2, 0, 5, 0, 1, 0, 255, 255,
+    ];
+    let m5 = [
+        2, 0, 2, 0, 1, 0, 12, 0, 20, 0, 28, 0, //
+        3, 0, 0, 0, 3, 0, 0, 0, //
+        0, 0, 1, 0, 2, 0, 255, 255,
+    ];
+    let m6 = [
+        2, 0, 2, 0, 2, 0, 12, 0, 20, 0, 36, 0, //
+        3, 0, 0, 0, 3, 0, 0, 0, //
+        0, 0, 1, 0, 1, 0, 255, 255, //
+        1, 0, 1, 0, 1, 0, 255, 255,
+    ];
+    let m7 = [
+        4, 0, 4, 0, 2, 0, 12, 0, 28, 0, 44, 0, //
+        3, 0, 0, 0, 3, 0, 0, 0, 3, 0, 0, 0, 12, 0, 0, 0, //
+        0, 0, 4, 0, 0, 0, 1, 0, //
+        1, 0, 4, 0, 0, 0, 1, 0,
+    ];
+    let m8 = [
+        3, 0, 2, 0, 1, 0, 12, 0, 24, 0, 32, 0, //
+        3, 0, 0, 0, 3, 0, 0, 0, 3, 0, 0, 0, //
+        0, 0, 2, 0, 1, 0, 255, 255,
+    ];
+    assert_eq!(files["M1"], m1);
+    assert_eq!(files["M2"], m2);
+    assert_eq!(files["M3"], m3);
+    assert_eq!(files["M4"], m4);
+    assert_eq!(files["M5"], m5);
+    assert_eq!(files["M6"], m6);
+    assert_eq!(files["M7"], m7);
+    assert_eq!(files["M8"], m8);
+}
+
+/// Each bad book is refused with the number in its name, and the others are good.
+#[test]
+fn files_are_what_their_names_say() {
+    let mut numbers = Vec::new();
+    for (name, bytes) in bundled() {
+        let expected = match name.strip_prefix("bad_") {
+            Some(rest) => rest[..1].parse().unwrap(),
+            None => 0,
+        };
+        let number = nested_gcc::check(&bytes).map_or_else(|refusal| refusal.number(), |()| 0);
+        assert_eq!(number, expected, "{name}");
+        numbers.push(number);
+    }
+    assert_eq!(numbers, [0, 0, 0, 0, 0, 0, 0, 0, 1, 2, 3, 4, 5, 6, 7, 8]);
+}
