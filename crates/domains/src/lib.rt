@@ -1,7 +1,7 @@
 // One slot's mask as a `u32`: bit v says that value v may go in that slot. A mask is never refused here: every `u32` is one.
 // The contracts cite `specs/Mask.antt`; `specs/Masks.antt` has what the layers above say of lists of masks.
 ghost use mathlib.Core.Path.{_≡_};
-ghost use Prim.Native.Nat.{_<_, _^_};
+ghost use Prim.Native.Nat.{_+_, _<_, _^_};
 ghost use lib.Dec.{eqb};
 ghost use lib.Count.{ones};
 ghost use Rattle.domains.specs.Mask.{testBit, clearBit, Fixed};
@@ -20,6 +20,14 @@ pub fn without(m: u32, v: u32) -> u32
     ensures { λ r. ⌜ r ≡ clearBit m v ⌝ }
 {
     m - ((m >> v) % 2 << v)
+}
+
+// m with value v put in, where it is not.
+pub fn with(m: u32, v: u32) -> u32
+    requires { ⌜ (v < 32) × (testBit m v ≡ 0) ⌝ }
+    ensures { λ r. ⌜ r ≡ m + 2 ^ v ⌝ }
+{
+    m + (1 << v)
 }
 
 // How many values m has.

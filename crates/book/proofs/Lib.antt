@@ -1,0 +1,3 @@
+pub mod LayoutLaws
+pub mod RefusalLaws
+pub mod BookLaws
