@@ -1,0 +1,31 @@
+-- What the functions of this crate are lent and what they answer.
+--   Fits n k L U       two lists that hold just a table of k values and the prefixes 0 to n, whose numbers fit
+--   Outcome            what a run of rules did, by its answer: nothing, stores, or the finding that no table with the rules lies within
+--   answered r L U     the model's answer that r and the two lists stand for: a table, or none (document 01: dead)
+-- Assumes nothing.
+use mathlib.Core.Path.{_≡_}
+use mathlib.Core.Bool.{Bool, true, false}
+use mathlib.Core.List.{List}
+use mathlib.Core.Option.{Option, none, some}
+use Prim.Native.Nat.{ℕ, _<_}
+use lib.ListN.{length}
+use Rattle.closing_model.specs.Table.{Table, view, size, Within}
+use Rattle.closing_model.specs.Sweep.{Did}
+use Rattle.bounds.specs.declared.across.Sweep.{Sweep}
+use Rattle.bounds.specs.declared.across.Sweep.the-variants.{Same, Changed, Crossed}
+
+-- prefix lengths are entries, of 16 bits, and as many values have a sum of entries that fits
+pub record Fits (n k : ℕ) (L U : List ℕ) : Type 0 where
+  pub prefixes : n < 65536
+  pub values : k < 65536
+  pub lowers : length L ≡ size n k
+  pub uppers : length U ≡ size n k
+
+abbrev pub Outcome : ℕ → (Table → Type 0) → List ℕ → List ℕ → List ℕ → List ℕ → Sweep → Type 0
+Outcome edge P L U L′ U′ Same = Did edge P L U L′ U′ false
+Outcome edge P L U L′ U′ Changed = Did edge P L U L′ U′ true
+Outcome edge P L U L′ U′ Crossed = (T : Table) → P T → Within edge (view L U) T → ⊥
+
+abbrev pub answered : Bool → List ℕ → List ℕ → Option (List ℕ × List ℕ)
+answered true L U = some (L, U)
+answered false L U = none

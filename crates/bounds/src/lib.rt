@@ -1,0 +1,69 @@
+// Closing a table of bounds in place (document 01, 'Closing'): the two slices hold lowers and uppers, value by value, and are swept
+// until a sweep changes nothing or finds a crossed entry. No other array is used. The contracts cite specs/Answer.antt and the model
+// `closing` of closing_model's specs/Closing.antt.
+mod across;
+mod along;
+pub mod store;
+
+use across::Sweep;
+use across::columns;
+use along::line;
+use store::crossed;
+ghost use mathlib.Core.Path.{_≡_};
+ghost use Prim.Native.Nat.{_<_, _≤_};
+ghost use lib.ListN.{length, take, drop};
+ghost use Rattle.closing_model.specs.Table.{size};
+ghost use Rattle.closing_model.specs.Closing.{closing};
+ghost use Rattle.bounds.specs.Answer.{answered, Fits};
+
+// Closes the table in place: true, and the loosest closed table within it stands in the slices, or false where none lies within (document
+// 01: dead).
+pub fn close_table(lowers: &mut [u16], uppers: &mut [u16], n: usize, k: usize) -> bool
+    requires { ⌜ Fits n k (now lowers) (now uppers) ⌝ }
+    ensures { λ r. ⌜ closing n k (now (lowers .entry)) (now (uppers .entry)) ≡ answered r (now (lowers .exit)) (now (uppers .exit)) ⌝ }
+{
+    'sweeps: loop {
+        let mut changed = false;
+        let mut v = 0;
+        let mut base = 0;
+        while v < k {
+            if line(lowers, uppers, base, n) {
+                changed = true;
+            }
+            let mut t = 0;
+            while t <= n {
+                if crossed(lowers, uppers, base + t) {
+                    break 'sweeps;
+                }
+                t += 1;
+            }
+            base += n + 1;
+            v += 1;
+        }
+        let r = columns(lowers, uppers, n, k);
+        match r {
+            Sweep::Crossed => {
+                break 'sweeps;
+            }
+            Sweep::Changed => {
+                changed = true;
+            }
+            Sweep::Same => {}
+        }
+        if !changed {
+            return true;
+        }
+    }
+    false
+}
+
+// The same on the first k (n + 1) entries of two slices that may be longer.
+pub fn close_front(lowers: &mut [u16], uppers: &mut [u16], n: usize, k: usize) -> bool
+    requires { ⌜ (n < 65536) × (k < 65536) × (size n k ≤ length (now lowers)) × (size n k ≤ length (now uppers)) ⌝ }
+    ensures { λ r. ⌜ closing n k (take (size n k) (now (lowers .entry))) (take (size n k) (now (uppers .entry))) ≡ answered r (take (size n k) (now (lowers .exit))) (take (size n k) (now (uppers .exit))) ⌝ }
+    ensures { λ r. ⌜ drop (size n k) (now (lowers .exit)) ≡ drop (size n k) (now (lowers .entry)) ⌝ }
+    ensures { λ r. ⌜ drop (size n k) (now (uppers .exit)) ≡ drop (size n k) (now (uppers .entry)) ⌝ }
+{
+    let m = k * (n + 1);
+    close_table(&mut lowers[..m], &mut uppers[..m], n, k)
+}

@@ -1,0 +1,5 @@
+pub mod Closing
+pub mod Corners
+pub mod Start
+pub mod Sweep
+pub mod Table

@@ -1,0 +1,101 @@
+-- `segments::fall` meets its contract. It has no loop: each of its five returns is one law of `FellLaws`, on what the searches found and the stores
+-- left. Assumes nothing.
+use mathlib.Core.Path.{refl}
+use native.Mathlib.Omega.{arith}
+use Rattle.segments.proofs.FellLaws.{fell-clash, fell-none, fell-less, fell-join, fell-spend}
+use borrow.Author.Needs.{needs}
+use Rattle.segments.proofs.fall.Statement.{statement}
+use Rattle.segments.proofs.fall.Tie as tie
+
+slice-read-wide : tie.Need-slice-read-wide
+slice-read-wide c = search needs
+
+wide-requires : tie.Need-wide-requires
+wide-requires c κs = search needs
+
+returns : tie.Need-returns
+returns c = fell-clash _ _ _ (omega arith)
+
+next-standing-requires : tie.Need-next-standing-requires
+next-standing-requires c κs = search needs
+
+same-length : tie.Need-same-length
+same-length c = search needs
+
+returns-2 : tie.Need-returns-2
+returns-2 c = fell-none _ _ _ (omega arith) (c .before .next-standing .ensures) (omega arith)
+
+mul-d : tie.Need-mul-d
+mul-d c = search needs
+
+slice-read-d : tie.Need-slice-read-d
+slice-read-d c = search needs
+
+sub-cells : tie.Need-sub-cells
+sub-cells c = search needs
+
+mul-cells : tie.Need-mul-cells
+mul-cells c = search needs
+
+slice-write-cells : tie.Need-slice-write-cells
+slice-write-cells c = search needs
+
+same-length-2 : tie.Need-same-length-2
+same-length-2 c = search needs
+
+returns-3 : tie.Need-returns-3
+returns-3 c = fell-less _ _ _ (omega arith) (c .before .before .before .next-standing .ensures) (omega arith) (omega arith) _ (omega arith) refl
+
+previous-standing-requires : tie.Need-previous-standing-requires
+previous-standing-requires c κs = search needs
+
+spend-requires : tie.Need-spend-requires
+spend-requires c κs = search needs
+
+same-length-3 : tie.Need-same-length-3
+same-length-3 c = search needs
+
+returns-4 : tie.Need-returns-4
+returns-4 c =
+    let previous = c .before .before .before .before .before .previous-standing .ensures in
+    let next = c .before .before .before .before .before .before .before .before .before .before .next-standing .ensures in
+    let one-left = next .stands (omega arith) in
+    fell-spend _ _ _ (omega arith) next (omega arith) (omega arith) (omega arith) previous _ (omega arith) (c .before .before .spend .ensures)
+
+join-requires : tie.Need-join-requires
+join-requires c κs = search needs
+
+same-length-4 : tie.Need-same-length-4
+same-length-4 c = search needs
+
+returns-5 : tie.Need-returns-5
+returns-5 c =
+    let previous = c .before .before .before .before .before .previous-standing .ensures in
+    let next = c .before .before .before .before .before .before .before .before .before .before .next-standing .ensures in
+    let one-left = next .stands (omega arith) in
+    fell-join _ _ _ (omega arith) next (omega arith) (omega arith) (omega arith) previous _ (omega arith) (c .before .before .join .ensures)
+
+pub fall-spec : {M : Type 1} → statement M
+fall-spec =
+    tie.close
+    (tie.spec
+    slice-read-wide
+    wide-requires
+    returns
+    next-standing-requires
+    same-length
+    returns-2
+    mul-d
+    slice-read-d
+    sub-cells
+    mul-cells
+    slice-write-cells
+    same-length-2
+    returns-3
+    previous-standing-requires
+    spend-requires
+    same-length-3
+    returns-4
+    join-requires
+    same-length-4
+    returns-5)

@@ -1,0 +1,355 @@
+// The segments of one value and one kind of bound, kept in one cell for each prefix from 0 to n: built from the bound's rises and the masks,
+// brought up to date when the slack falls by one after a slot, and counted. `lower` is the kind: true for the lower bound. Nothing is refused
+// here. The contracts cite `specs/Fell.antt` and `specs/Built.antt`, and the definitions of segments_model.
+ghost use mathlib.Core.Path.{_≡_};
+ghost use mathlib.Core.Bool.{cond};
+ghost use Prim.Native.Nat.{_+_, _-_, _^_, _<_, _≤_};
+ghost use lib.Dec.{eqb};
+ghost use lib.ListN.{length, getD, set};
+ghost use Rattle.domains.specs.Mask.{testBit};
+ghost use Rattle.domains.specs.Counts.{bit};
+ghost use Rattle.segments_model.specs.Build.{Inserted, Counts};
+ghost use Rattle.segments_model.specs.Cells.{standingIn};
+ghost use Rattle.segments_model.specs.Lines.{lineOf, cornerOf, tick};
+ghost use Rattle.segments_model.specs.Part.{part, Lent};
+ghost use Rattle.segments_model.specs.Search.{Gap, Next, Previous};
+ghost use Rattle.segments.specs.Built.{Visit, Built};
+ghost use Rattle.segments.specs.Fell.{Fell};
+
+// What a fall of the slack meets: no corner loses its last slack; a corner has none to lose; the last corner that loses its last slack.
+pub enum Hit {
+    Quiet,
+    Clash,
+    Reached(usize),
+}
+
+// How the building goes on after a prefix: its corner lacks slack, or the first right end is at a place.
+enum Visited {
+    Lacking,
+    Onward(usize),
+}
+
+struct Totals {
+    // the line at n
+    risen: usize,
+    // how many of the n slots count for the kind
+    counted: usize,
+}
+
+// Fills the cells of one value from its rises and the masks. False where a corner is broken.
+pub fn build(cells: &mut [u16], rises: &[u32], masks: &[u32], n: usize, v: u32, lower: bool) -> bool
+    requires { ⌜ (n < length (now cells)) × (n < length (now rises)) × (n ≤ length (now masks)) × (n < 65536) × (v < 32) ⌝ }
+    ensures { λ r. ⌜ Built lower n v (now (rises .entry)) (now (masks .entry)) (now (cells .entry)) (now (cells .exit)) r ⌝ }
+{
+    blank(cells, n);
+    let total = count_all(rises, masks, n, v, lower);
+    let risen = total.risen;
+    let counted = total.counted;
+    fill(cells, rises, masks, n, v, lower, risen, counted)
+}
+
+// The same for the n + 1 cells from `base` on of a longer list, whose other cells stay.
+pub fn build_in(
+    cells: &mut [u16],
+    base: usize,
+    rises: &[u32],
+    masks: &[u32],
+    n: usize,
+    v: u32,
+    lower: bool,
+) -> bool
+    requires { ⌜ (base + n < length (now cells)) × (n < length (now rises)) × (n ≤ length (now masks)) × (n < 65536) × (v < 32) ⌝ }
+    ensures { λ r. ⌜ Lent base (n + 1) (λ a b. Built lower n v (now (rises .entry)) (now (masks .entry)) a b r)
+        (now (cells .entry)) (now (cells .exit)) ⌝ }
+{
+    let end = base + n + 1;
+    build(&mut cells[base..end], rises, masks, n, v, lower)
+}
+
+// Lowers the slack by one at each corner after the slot.
+pub fn fall(cells: &mut [u16], n: usize, slot: usize) -> Hit
+    requires { ⌜ (slot ≤ n) × (n < length (now cells)) × (n < 65536) ⌝ }
+    ensures { λ r. ⌜ Fell n slot (now (cells .entry)) (now (cells .exit)) r ⌝ }
+{
+    if slot < wide(cells[0]) {
+        return Hit::Clash;
+    }
+    let t = next_standing(cells, n, slot);
+    if n < t {
+        return Hit::Quiet;
+    }
+    let d = cells[t];
+    if 1 < d {
+        cells[t] = d - 1;
+        return Hit::Quiet;
+    }
+    let p = previous_standing(cells, slot);
+    if p == 0 {
+        spend(cells, t);
+        return Hit::Reached(t);
+    }
+    join(cells, p, t);
+    Hit::Quiet
+}
+
+// The same for the n + 1 cells from `base` on of a longer list, whose other cells stay.
+pub fn fall_in(cells: &mut [u16], base: usize, n: usize, slot: usize) -> Hit
+    requires { ⌜ (slot ≤ n) × (base + n < length (now cells)) × (n < 65536) ⌝ }
+    ensures { λ r. ⌜ Lent base (n + 1) (λ a b. Fell n slot a b r) (now (cells .entry)) (now (cells .exit)) ⌝ }
+{
+    let end = base + n + 1;
+    fall(&mut cells[base..end], n, slot)
+}
+
+// How many segments the cells hold.
+pub fn standing(cells: &[u16], n: usize) -> usize
+    requires { ⌜ n < length (now cells) ⌝ }
+    ensures { λ r. ⌜ r ≡ standingIn (now (cells .entry)) n ⌝ }
+{
+    let mut count: usize = 0;
+    let mut t: usize = 0;
+    while t < n {
+        t += 1;
+        if cells[t] != 0 {
+            count += 1;
+        }
+    }
+    count
+}
+
+// The same for the n + 1 cells from `base` on.
+pub fn standing_in(cells: &[u16], base: usize, n: usize) -> usize
+    requires { ⌜ base + n < length (now cells) ⌝ }
+    ensures { λ r. ⌜ r ≡ standingIn (part base (n + 1) (now (cells .entry))) n ⌝ }
+{
+    let end = base + n + 1;
+    standing(&cells[base..end], n)
+}
+
+// The first right end after the slot, or n + 1.
+fn next_standing(cells: &[u16], n: usize, slot: usize) -> usize
+    requires { ⌜ (slot ≤ n) × (n < length (now cells)) ⌝ }
+    ensures { λ r. ⌜ Next n slot (now (cells .entry)) r ⌝ }
+{
+    let mut t = slot + 1;
+    while t <= n {
+        if cells[t] != 0 {
+            return t;
+        }
+        t += 1;
+    }
+    t
+}
+
+// The last right end up to the slot, or 0.
+fn previous_standing(cells: &[u16], slot: usize) -> usize
+    requires { ⌜ slot < length (now cells) ⌝ }
+    ensures { λ r. ⌜ Previous slot (now (cells .entry)) r ⌝ }
+{
+    let mut p = slot;
+    while 0 < p {
+        if cells[p] != 0 {
+            return p;
+        }
+        p -= 1;
+    }
+    p
+}
+
+// The leftmost segment, whose right end t has no slack left, is spent.
+fn spend(cells: &mut [u16], t: usize)
+    requires { ⌜ (t < length (now cells)) × (t < 65536) ⌝ }
+    ensures { λ _. ⌜ now (cells .exit) ≡ set (set (now (cells .entry)) t 0) 0 t ⌝ }
+{
+    cells[t] = 0;
+    cells[0] = t as u16;
+}
+
+// The segment that ends at p is joined to the one that ends at t, whose slack has come down to that of p.
+fn join(cells: &mut [u16], p: usize, t: usize)
+    requires { ⌜ (p < length (now cells)) × (t < length (now cells)) ⌝ }
+    ensures { λ _. ⌜ now (cells .exit) ≡ set (set (now (cells .entry)) t (getD (now (cells .entry)) p 0)) p 0 ⌝ }
+{
+    cells[t] = cells[p];
+    cells[p] = 0;
+}
+
+// Empties the cells up to n.
+fn blank(cells: &mut [u16], n: usize)
+    requires { ⌜ n < length (now cells) ⌝ }
+    ensures { λ _. ⌜ (length (now (cells .exit)) ≡ length (now (cells .entry))) × Gap (now (cells .exit)) 0 (n + 1) ⌝ }
+{
+    let mut t: usize = 0;
+    while t <= n {
+        cells[t] = 0;
+        t += 1;
+    }
+}
+
+fn count_all(rises: &[u32], masks: &[u32], n: usize, v: u32, lower: bool) -> Totals
+    requires { ⌜ (n < length (now rises)) × (n ≤ length (now masks)) × (v < 32) ⌝ }
+    ensures { λ r. ⌜ Counts lower (now (rises .entry)) (now (masks .entry)) v n (r .risen) (r .counted) ⌝ }
+{
+    let mut risen: usize = 0;
+    let mut counted: usize = 0;
+    let mut t: usize = 0;
+    while t < n {
+        counted += tick(masks, t, v, lower);
+        t += 1;
+        risen += rise(rises, t, v);
+    }
+    Totals {
+        risen: risen,
+        counted: counted,
+    }
+}
+
+// Takes the corners from the last to the first, with the line and the count at n, into cells that are empty.
+fn fill(
+    cells: &mut [u16],
+    rises: &[u32],
+    masks: &[u32],
+    n: usize,
+    v: u32,
+    lower: bool,
+    risen: usize,
+    counted: usize,
+) -> bool
+    requires { ⌜ (n < length (now cells)) × (n < length (now rises)) × (n ≤ length (now masks)) × (n < 65536) × (v < 32)
+        × Counts lower (now rises) (now masks) v n risen counted × Gap (now cells) 0 (n + 1) ⌝ }
+    ensures { λ r. ⌜ Built lower n v (now (rises .entry)) (now (masks .entry)) (now (cells .entry)) (now (cells .exit)) r ⌝ }
+{
+    let mut r = risen;
+    let mut k = counted;
+    let mut next = n + 1;
+    let mut t = n;
+    while 0 < t {
+        let corner = corner_at(rises, n, v, lower, t);
+        let gained = choose(lower, k, r);
+        let lost = choose(lower, r, k);
+        let Visited::Onward(first) = visit(cells, n, t, corner, gained, lost, next) else {
+            return false;
+        };
+        next = first;
+        r -= rise(rises, t, v);
+        t -= 1;
+        k -= tick(masks, t, v, lower);
+    }
+    true
+}
+
+// Takes the prefix t, where those after it are done and `next` is the first right end.
+fn visit(
+    cells: &mut [u16],
+    n: usize,
+    t: usize,
+    corner: bool,
+    gained: usize,
+    lost: usize,
+    next: usize,
+) -> Visited
+    requires { ⌜ (0 < t) × (t ≤ n) × (n < length (now cells)) × (n < 65536) × (gained < 65536) × (t < next) ⌝ }
+    ensures { λ r. ⌜ Visit n t corner gained lost next (now (cells .entry)) (now (cells .exit)) r ⌝ }
+{
+    if !corner {
+        return Visited::Onward(next);
+    }
+    if gained < lost {
+        return Visited::Lacking;
+    }
+    let first = insert(cells, n, t, gained - lost, next);
+    Visited::Onward(first)
+}
+
+// Adds the corner t with slack x before those that the cells hold, of which the first right end is at next. The first right end after it.
+fn insert(cells: &mut [u16], n: usize, t: usize, x: usize, next: usize) -> usize
+    requires { ⌜ (0 < t) × (t ≤ n) × (n < length (now cells)) × (n < 65536) × (x < 65536) × (t < next) ⌝ }
+    ensures { λ r. ⌜ Inserted n t x next (now (cells .entry)) (now (cells .exit)) r ⌝ }
+{
+    if cells[0] != 0 {
+        return next;
+    }
+    if x == 0 {
+        cells[0] = t as u16;
+        return next;
+    }
+    if n < next {
+        cells[t] = x as u16;
+        return t;
+    }
+    let y = wide(cells[next]);
+    if y <= x {
+        return next;
+    }
+    cells[next] = (y - x) as u16;
+    cells[t] = x as u16;
+    t
+}
+
+// Whether the line turns at t.
+fn corner_at(rises: &[u32], n: usize, v: u32, lower: bool, t: usize) -> bool
+    requires { ⌜ (0 < t) × (t ≤ n) × (n < length (now rises)) × (v < 32) ⌝ }
+    ensures { λ r. ⌜ r ≡ cornerOf lower n (lineOf (now (rises .entry)) v) t ⌝ }
+{
+    if rise(rises, t, v) != one(lower) {
+        return false;
+    }
+    if t == n {
+        return true;
+    }
+    rise(rises, t + 1, v) == one(!lower)
+}
+
+// By how much the line grows at t.
+fn rise(rises: &[u32], t: usize, v: u32) -> usize
+    requires { ⌜ (t < length (now rises)) × (v < 32) ⌝ }
+    ensures { λ r. ⌜ r ≡ testBit (getD (now (rises .entry)) t 0) v ⌝ }
+{
+    one(domains::has(rises[t], v))
+}
+
+// What the slot counts for the kind: whether it has v, or is fixed to v.
+fn tick(masks: &[u32], slot: usize, v: u32, lower: bool) -> usize
+    requires { ⌜ (slot < length (now masks)) × (v < 32) ⌝ }
+    ensures { λ r. ⌜ r ≡ tick lower (getD (now (masks .entry)) slot 0) v ⌝ }
+{
+    let m = masks[slot];
+    if lower {
+        return one(domains::has(m, v));
+    }
+    one(is_fixed(m, v))
+}
+
+// Whether v is the only value of m.
+fn is_fixed(m: u32, v: u32) -> bool
+    ensures { λ r. ⌜ r ≡ eqb m (2 ^ v) ⌝ }
+{
+    if !domains::is_single(m) {
+        return false;
+    }
+    domains::single_value(m) == v
+}
+
+fn one(b: bool) -> usize
+    ensures { λ r. ⌜ r ≡ bit b ⌝ }
+{
+    if b {
+        return 1;
+    }
+    0
+}
+
+fn choose(b: bool, x: usize, y: usize) -> usize
+    ensures { λ r. ⌜ r ≡ cond b x y ⌝ }
+{
+    if b {
+        return x;
+    }
+    y
+}
+
+fn wide(x: u16) -> usize
+    ensures { λ r. ⌜ (r ≡ x) × (r < 65536) ⌝ }
+{
+    x as usize
+}

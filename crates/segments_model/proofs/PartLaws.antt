@@ -1,0 +1,62 @@
+-- The laws of specs/Part.antt: a part that was lent and came back (`lent`), and a part that lies apart from it (`lent-apart`).
+-- No contract cites this file. Assumes nothing.
+use mathlib.Core.Path.{_≡_, sym, ap, _∙_}
+use mathlib.Core.Logic.{_⊎_, ⊎-elim}
+use mathlib.Core.List.{List, _++_}
+use Prim.Native.Nat.{ℕ, _+_, _-_, _≤_, _<_}
+use native.Mathlib.Omega.{arith}
+use lib.ListN.{length, getD, take, drop, length-drop}
+use lib.Seq.{take-at, drop-at, length-take-le, getD-take, getD-drop, ext-getD}
+use borrow.Rule.Slice.PartMut.{midOf, postOf, putMid, same-len-mid, mid-len, take-put, drop-put}
+use Rattle.segments_model.specs.Part.{part, Lent}
+
+-- ---- a part that came back
+
+module _ (a k : ℕ) (l ys : List ℕ) (inside : a + k ≤ length l) (size : length ys ≡ k) where
+  part-put : part a k (putMid a k l ys) ≡ ys
+  part-put =
+      ap (take k) (drop-at (take a l) (ys ++ postOf a k l) a (length-take-le a l (omega arith))) ∙ take-at ys (postOf a k l) k size
+
+  put-before : (i : ℕ) → i < a → getD (putMid a k l ys) i 0 ≡ getD l i 0
+  put-before i i<a =
+      sym (getD-take a (putMid a k l ys) i 0 i<a) ∙ ap (λ (m : List ℕ). getD m i 0) (take-put a k l ys (omega arith)) ∙ getD-take a l i 0 i<a
+
+put-after : (a e : ℕ) (l ys : List ℕ) → a ≤ e → e ≤ length l → length ys ≡ e - a → (i : ℕ) → e ≤ i → getD (putMid a (e - a) l ys) i 0 ≡ getD l i 0
+put-after a e l ys a≤e e≤len size i e≤i =
+    let at : e + (i - e) ≡ i = omega arith in
+    ap (λ (j : ℕ). getD (putMid a (e - a) l ys) j 0) (sym at) ∙ sym (getD-drop e (putMid a (e - a) l ys) (i - e) 0)
+    ∙ ap (λ (m : List ℕ). getD m (i - e) 0) (drop-put a e l ys a≤e e≤len size) ∙ getD-drop e l (i - e) 0 ∙ ap (λ (j : ℕ). getD l j 0) at
+
+-- what was done to the n + 1 cells from base on is done to their place
+pub lent : (base n : ℕ) (P : List ℕ → List ℕ → Type 0) (l ys : List ℕ) → base + n < length l → length ys ≡ length (midOf base (base + n + 1 - base) l)
+    → P (midOf base (base + n + 1 - base) l) ys → Lent base (n + 1) P l (putMid base (base + n + 1 - base) l ys)
+lent base n P l ys inside kept does =
+    let k : base + n + 1 - base ≡ n + 1 = omega arith in
+    let size : length ys ≡ base + n + 1 - base = kept ∙ mid-len base (base + n + 1) l (omega arith) in
+    record {
+      does =
+          let done : P (part base (n + 1) l) ys = rw k at does in
+          let put : part base (n + 1) (putMid base (base + n + 1 - base) l ys) ≡ ys = rw k (part-put base (n + 1) l ys (omega arith) (size ∙ k)) in
+          rw put done;
+      size = same-len-mid base (base + n + 1 - base) l ys kept;
+      before = put-before base (base + n + 1 - base) l ys (omega arith) size;
+      after = λ i past. put-after base (base + n + 1) l ys (omega arith) (omega arith) size i (omega arith);
+    }
+
+-- ---- a part that lies apart
+
+part-at : (a k : ℕ) (l : List ℕ) (i : ℕ) → i < k → getD (part a k l) i 0 ≡ getD l (a + i) 0
+part-at a k l i i<k = getD-take k (drop a l) i 0 i<k ∙ getD-drop a l i 0
+
+part-length : (a k : ℕ) (l : List ℕ) → a + k ≤ length l → length (part a k l) ≡ k
+part-length a k l inside = length-take-le k (drop a l) (omega (arith, length-drop a l))
+
+pub lent-apart : {base k : ℕ} {P : List ℕ → List ℕ → Type 0} {l l′ : List ℕ} → Lent base k P l l′ → (a j : ℕ) → a + j ≤ length l
+    → (a + j ≤ base) ⊎ (base + k ≤ a) → part a j l′ ≡ part a j l
+lent-apart {l = l} {l′ = l′} came a j inside apart =
+    ext-getD 0 (part a j l′) (part a j l) (part-length a j l′ (omega (arith, came .size)) ∙ sym (part-length a j l inside))
+    (λ i i<len.
+    let i<j : i < j = omega (arith, part-length a j l′ (omega (arith, came .size))) in
+    part-at a j l′ i i<j
+    ∙ ⊎-elim (λ left. came .before (a + i) (omega arith)) (λ right. came .after (a + i) (omega arith)) apart
+    ∙ sym (part-at a j l i i<j))

@@ -1,0 +1,73 @@
+-- One bound of one value over the prefixes 0 to n: its line u, its corners, and its slack on a list of masks M.
+-- A kind is a Bool: true for the lower bounds, false for the upper ones.
+--   lineOf rises v         the line that starts at 0 and grows by bit v of the rises at each prefix
+--   Rising n v rises u     u is that line up to n
+--   cornerOf kind n u t    u turns at t: a breakpoint of its staircase (document 01: a lower or an upper corner)
+--   tick, countOf          what one mask counts for the kind, and their sum before t: document 01's P (lower) or B (upper)
+--   gain, loss, slackOf    P - lower or upper - B, and its two parts
+--   Change kind m₀ m v d   the mask m in place of m₀ costs the slack d
+--   Broken, Unbroken       a corner with less gain than loss: P below lower, or B above upper; no such corner after t
+--   BrokenAt, Segments     the bound is broken at t; no corner of it is broken, and the cells hold its segments
+-- Assumes nothing.
+use mathlib.Core.Path.{_≡_}
+use mathlib.Core.Bool.{Bool, true, false, _&&_, _||_}
+use mathlib.Core.List.{List}
+use Prim.Native.Nat.{ℕ, suc, _+_, _-_, _≤_, _<_}
+use lib.Dec.{eqb}
+use lib.ListN.{getD}
+use Rattle.domains.specs.Mask.{testBit}
+use Rattle.domains.specs.Counts.{count, only, countHas, countFixed}
+use Rattle.segments_model.specs.Cells.{upTo, Cells}
+
+-- ---- the line
+abbrev pub lineOf : List ℕ → ℕ → ℕ → ℕ
+lineOf rises v t = upTo (λ i. testBit (getD rises i 0) v) t
+
+pub record Rising (n v : ℕ) (rises : List ℕ) (u : ℕ → ℕ) : Type 0 where
+  pub start : u 0 ≡ 0
+  pub steps : (t : ℕ) → t < n → u (suc t) ≡ u t + testBit (getD rises (suc t) 0) v
+
+abbrev pub cornerOf : Bool → ℕ → (ℕ → ℕ) → ℕ → Bool
+cornerOf true n u t = eqb (u t) (u (t - 1) + 1) && (eqb t n || eqb (u (t + 1)) (u t))
+cornerOf false n u t = eqb (u t) (u (t - 1)) && (eqb t n || eqb (u (t + 1)) (u t + 1))
+
+-- ---- the slack
+abbrev pub tick : Bool → ℕ → ℕ → ℕ
+tick true m v = testBit m v
+tick false m v = only m v
+
+abbrev pub countOf : Bool → List ℕ → ℕ → ℕ → ℕ
+countOf kind M v t = count (λ s. tick kind (getD M s 0) v) t
+
+abbrev pub gain : Bool → (ℕ → ℕ) → List ℕ → ℕ → ℕ → ℕ
+gain true u M v t = countHas M v t
+gain false u M v t = u t
+
+abbrev pub loss : Bool → (ℕ → ℕ) → List ℕ → ℕ → ℕ → ℕ
+loss true u M v t = u t
+loss false u M v t = countFixed M v t
+
+-- below 0 it counts as 0: either way the corner is no right end, and no slack above 0 lies below it
+abbrev pub slackOf : Bool → (ℕ → ℕ) → List ℕ → ℕ → ℕ → ℕ
+slackOf kind u M v t = gain kind u M v t - loss kind u M v t
+
+abbrev pub Change : Bool → ℕ → ℕ → ℕ → ℕ → Type 0
+Change true m₀ m v d = testBit m₀ v ≡ testBit m v + d
+Change false m₀ m v d = only m v ≡ only m₀ v + d
+
+-- ---- the segments: g is the gain, h the loss
+pub record Broken (n : ℕ) (C : ℕ → Bool) (g h : ℕ → ℕ) (t : ℕ) : Type 0 where
+  pub above : 0 < t
+  pub inside : t ≤ n
+  pub corner : C t ≡ true
+  pub broken : g t < h t
+
+abbrev pub Unbroken : ℕ → (ℕ → Bool) → (ℕ → ℕ) → (ℕ → ℕ) → ℕ → Type 0
+Unbroken n C g h t = (w : ℕ) → t < w → w ≤ n → C w ≡ true → h w ≤ g w
+
+abbrev pub BrokenAt : Bool → ℕ → (ℕ → ℕ) → List ℕ → ℕ → ℕ → Type 0
+BrokenAt kind n u M v t = Broken n (cornerOf kind n u) (gain kind u M v) (loss kind u M v) t
+
+pub record Segments (kind : Bool) (n : ℕ) (u : ℕ → ℕ) (M : List ℕ) (v : ℕ) (cells : List ℕ) : Type 0 where
+  pub held : Cells n (cornerOf kind n u) (slackOf kind u M v) cells
+  pub kept : Unbroken n (cornerOf kind n u) (gain kind u M v) (loss kind u M v) 0
