@@ -1,10 +1,7 @@
 /* Checks each file named as an argument: prints its name, the number answered, and what that means. */
+#include "book_file.h"
 #include "nested_gcc.h"
 #include <stdio.h>
-
-/* The longest good book has 12 + 4 * 256 + 8 * 1024 = 9228 bytes. Of a longer file only the first
- * bytes are read, one more than that, and no book of that length is good. */
-#define MOST (9228 + 1)
 
 static const char *meaning(uint32_t answer) {
     switch (answer) {
@@ -22,23 +19,11 @@ static const char *meaning(uint32_t answer) {
 }
 
 int main(int argc, char **argv) {
-    static uint8_t book[MOST];
+    static uint8_t book[BOOK_MOST];
     int i;
     for (i = 1; i < argc; i++) {
-        FILE *file = fopen(argv[i], "rb");
-        size_t length;
-        uint32_t answer;
-        if (file == NULL) {
-            perror(argv[i]);
-            return 1;
-        }
-        length = fread(book, 1, MOST, file);
-        if (ferror(file)) {
-            perror(argv[i]);
-            return 1;
-        }
-        fclose(file);
-        answer = nested_gcc_check(book, length);
+        size_t length = read_book(argv[i], book);
+        uint32_t answer = nested_gcc_check(book, length);
         printf("%s: %u %s\n", argv[i], (unsigned)answer, meaning(answer));
     }
     return 0;

@@ -3,6 +3,7 @@
  * Link with libnested_gcc.a, which `rt staticlib nested_gcc` builds.
  *
  * nested_gcc_check    whether the bytes are a good book
+ * nested_gcc_close    the bounds that follow from a book's rows, or that the book is dead
  *
  * A book, in little-endian numbers: slots n (2 bytes, 1 to 256), types k (1 byte, 1 to 32), a byte 0,
  * row count r (2 bytes, 0 to 1024), offset of the masks (2 bytes, 12), offset of the rows (2 bytes,
@@ -12,13 +13,19 @@
  * 65535 means no upper bound.
  *
  * For every function here:
- * - There is no premise on the bytes. For each pointer and length that describe readable memory the
- *   answer is defined, and follows from the bytes alone.
+ * - There is no premise on the bytes. For each book in readable and each output in writable memory the
+ *   answer is defined, and follows from the book's bytes and the outputs' lengths alone.
  * - A pointer is never NULL, not even with length 0; with length 0 it may be any other pointer.
  * - Nothing is kept between calls and nothing is allocated, so any number of threads may call at once.
  * - A book is only read, and only during the call. No thread may change it meanwhile. Calls that run
  *   at once may share one book.
- * - A call needs at most 4 KiB of stack. The need is measured by host/nested-gcc/tests/stack.rs, which fails above that.
+ * - An output is written only during the call, and only where the function's comment says so. What it
+ *   holds before plays no part. It may not overlap the book or another output, and no other thread may
+ *   use it meanwhile.
+ * - Lengths are in bytes. An output's elements stand little-endian and need no alignment; a trailing part
+ *   of an element neither counts nor is written.
+ * - The stack that a call needs at most is told for each function. The need is measured by
+ *   host/nested-gcc/tests/stack.rs, which fails above that.
  */
 #ifndef NESTED_GCC_H
 #define NESTED_GCC_H
@@ -30,26 +37,62 @@
 extern "C" {
 #endif
 
-/* The answer for a good book. */
+/* nested_gcc_check's answer for a good book. */
 #define NESTED_GCC_GOOD 0u
 
-/* A refusal is NESTED_GCC_REFUSED + its number, 1 to 8. The answer is the first that applies in this
- * order: 1 to 4; 5 for the masks by slot; 6, 7, 8 for the first row, then for the next. */
+/* The answers of the other functions for a good book. */
+#define NESTED_GCC_LIVE 0u
+#define NESTED_GCC_DEAD 1u
+
+/* A refusal is NESTED_GCC_REFUSED + its number, 1 to 9. The answer is the first that applies in this
+ * order: 1 to 4; 5 for the masks by slot; 6, 7, 8 for the first row, then for the next; 9. A function
+ * that refuses writes nothing. */
 #define NESTED_GCC_REFUSED 256u
-#define NESTED_GCC_TOO_SHORT (NESTED_GCC_REFUSED + 1u)     /* book under 12 bytes */
-#define NESTED_GCC_OUT_OF_RANGE (NESTED_GCC_REFUSED + 2u)  /* n, k or r out of range */
-#define NESTED_GCC_RESERVED_BYTE (NESTED_GCC_REFUSED + 3u) /* byte 3 not 0 */
-#define NESTED_GCC_LAYOUT (NESTED_GCC_REFUSED + 4u)        /* an offset or length differs, or the lent length does */
-#define NESTED_GCC_MASK (NESTED_GCC_REFUSED + 5u)          /* mask 0, or a bit from k up */
-#define NESTED_GCC_ROW_TYPE (NESTED_GCC_REFUSED + 6u)      /* row type k or more, or its second byte not 0 */
-#define NESTED_GCC_ROW_END (NESTED_GCC_REFUSED + 7u)       /* end 0 or above n */
-#define NESTED_GCC_ROW_BOUND (NESTED_GCC_REFUSED + 8u)     /* lower above 256; upper above 256, not 65535 */
+#define NESTED_GCC_TOO_SHORT (NESTED_GCC_REFUSED + 1u)        /* book under 12 bytes */
+#define NESTED_GCC_OUT_OF_RANGE (NESTED_GCC_REFUSED + 2u)     /* n, k or r out of range */
+#define NESTED_GCC_RESERVED_BYTE (NESTED_GCC_REFUSED + 3u)    /* byte 3 not 0 */
+#define NESTED_GCC_LAYOUT (NESTED_GCC_REFUSED + 4u)           /* an offset or length differs, or the lent length does */
+#define NESTED_GCC_MASK (NESTED_GCC_REFUSED + 5u)             /* mask 0, or a bit from k up */
+#define NESTED_GCC_ROW_TYPE (NESTED_GCC_REFUSED + 6u)         /* row type k or more, or its second byte not 0 */
+#define NESTED_GCC_ROW_END (NESTED_GCC_REFUSED + 7u)          /* end 0 or above n */
+#define NESTED_GCC_ROW_BOUND (NESTED_GCC_REFUSED + 8u)        /* lower above 256; upper above 256, not 65535 */
+#define NESTED_GCC_OUTPUT_TOO_SHORT (NESTED_GCC_REFUSED + 9u) /* a lent output too short */
 
 /*
  * Whether the book_len bytes at book are a good book: NESTED_GCC_GOOD, or the refusal that comes first.
- * Writes nothing. A lower above its upper or above its end is no refusal.
+ * Writes nothing. A lower above its upper or above its end is no refusal. Refusals: 1 to 8.
+ * Stack: at most 4 KiB.
  */
 uint32_t nested_gcc_check(const uint8_t *book, size_t book_len);
+
+/* The most bytes that nested_gcc_close writes into each output: 2 * 32 * (256 + 1). */
+#define NESTED_GCC_TABLE_BYTES 16448u
+
+/*
+ * Closes a book: for each type v, 0 to k - 1, and each end t, 0 to n, a lower and an upper bound on how many
+ * of type v the first t slots have. Each output has k(n + 1) elements of 16 bits, the bound for v and t at
+ * element v(n + 1) + t.
+ *
+ * At the start a lower is the greatest lower of the rows for v and t, or 0 if there is none, and an upper is
+ * the least of t and of those rows' uppers. A table is closed when, wherever both entries exist,
+ * - lower(v, t) is at least lower(v, t - 1), lower(v, t + 1) - 1, and t less the other types' uppers at t;
+ * - upper(v, t) is at most upper(v, t - 1) + 1, upper(v, t + 1), and t less the other types' lowers at t;
+ * - lower(v, t) is at most upper(v, t).
+ * The masks have no part in it.
+ *
+ * NESTED_GCC_LIVE: writes the closed table within the start that has the smallest lowers and largest uppers.
+ *     Every plan that keeps the rows keeps these bounds.
+ * NESTED_GCC_DEAD: no closed table lies within the start, so there is no plan. Fills the k(n + 1) elements
+ *     of each output with 0.
+ * Refusals: 1 to 8; then 9 if either output has fewer than k(n + 1) whole elements, be the book live or
+ *     dead. Neither output is touched.
+ * Bytes past the k(n + 1) elements of an output stay as they are.
+ *
+ * Stack: at most 48 KiB.
+ */
+uint32_t nested_gcc_close(const uint8_t *book, size_t book_len,
+                          uint8_t *lowers, size_t lowers_len,
+                          uint8_t *uppers, size_t uppers_len);
 
 #ifdef __cplusplus
 }

@@ -1,1 +1,2 @@
 pub mod CheckLaws
+mod CloseBytesLaws

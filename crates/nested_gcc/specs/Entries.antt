@@ -2,11 +2,16 @@
 --   fullLimits        document 01's limits: 256 slots, 32 types, 1024 rows
 --   answered number   0 where no number refuses, else 256 + the number
 --   checkAnswer b     what check answers for the bytes b: 0 for a good book
+--   CloseEntry b L U r L′ U′   of book b and the outputs L and U as they are lent: r is what close answers, and L′ and U′ are the outputs as they
+--                     come back; elements are 16 bits, little-endian, and a trailing byte neither counts nor is written
 -- Assumes nothing.
 use mathlib.Core.List.{List}
 use Prim.Native.Nat.{ℕ, zero, suc, _+_}
+use lib.ListN.{length}
 use Rattle.book.specs.declared.Limits.{Limits}
 use Rattle.book.specs.Refusal.{refusal}
+use Rattle.elements.specs.Elements.{bytesOf, whole}
+use Rattle.closing.specs.Close.{Closes, closeOf}
 
 abbrev pub fullLimits : Limits
 fullLimits = record { slots = 256; values = 32; rows = 1024 }
@@ -17,3 +22,6 @@ answered (suc x) = 256 + suc x
 
 abbrev pub checkAnswer : List ℕ → ℕ
 checkAnswer b = answered (refusal fullLimits b)
+
+abbrev pub CloseEntry : List ℕ → List ℕ → List ℕ → ℕ → List ℕ → List ℕ → Type 0
+CloseEntry b L U r L′ U′ = Closes (bytesOf 2) (closeOf fullLimits b (whole 2 (length L)) (whole 2 (length U))) r L U L′ U′

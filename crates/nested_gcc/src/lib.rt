@@ -1,13 +1,16 @@
 // The exported entries: thin forms over bytes, for a host written in C or Rust. A slice crosses as a pointer and a length. No entry has a
 // premise: each takes every slice of every length, and answers 0 (live; of check: a good book), 1 (dead) or 256 + the number of a refusal.
 // The contracts cite `specs/Entries.antt`.
+mod bytes; // bytes.rt: the entries that write, from bytes to bytes
+
 use answer::Answer;
 use answer::word;
 use book::Limits;
 use book::number;
 use book::read;
+use bytes::close_bytes;
 ghost use mathlib.Core.Path.{_≡_};
-ghost use Rattle.nested_gcc.specs.Entries.{checkAnswer};
+ghost use Rattle.nested_gcc.specs.Entries.{checkAnswer, CloseEntry};
 
 // Whether book is a good book. Writes nothing, and never answers dead.
 #[no_mangle]
@@ -24,4 +27,12 @@ pub extern "C" fn nested_gcc_check(book: &[u8]) -> u32
         return word(Answer::Live);
     }
     word(Answer::Refused(number as u8))
+}
+
+// Closes the table of book: lowers, then uppers, value by value, 16 bits each.
+#[no_mangle]
+pub extern "C" fn nested_gcc_close(book: &[u8], lowers: &mut [u8], uppers: &mut [u8]) -> u32
+    ensures { λ r. ⌜ CloseEntry (now (book .entry)) (now (lowers .entry)) (now (uppers .entry)) r (now (lowers .exit)) (now (uppers .exit)) ⌝ }
+{
+    close_bytes(book, lowers, uppers)
 }

@@ -1,26 +1,42 @@
 //! The proved filter of order books, as a safe crate over `libnested_gcc.a`.
 //!
-//! [`check`] says whether bytes are a good book, or else the first [`Refusal`]. [`Book`] writes the
-//! bytes of a book.
+//! [`check`] says whether bytes are a good book, or else the first [`Refusal`]. [`close`] gives the bounds
+//! that follow from the rows of a book, as a [`Table`], or says that the book is dead; [`close_into`] writes
+//! them into the caller's bytes. [`Book`] writes the bytes of a book.
 //!
 //! ```
-//! use nested_gcc::{check, Book, Refusal};
+//! use nested_gcc::{check, close, Book, Refusal};
 //!
 //! // Three slots and two types; of type 0 at least one within the first two slots.
-//! let book = Book::new(3, 2).row(0, 2, 1, None);
-//! assert_eq!(check(&book.to_bytes()), Ok(()));
+//! let book = Book::new(3, 2).row(0, 2, 1, None).to_bytes();
+//! assert_eq!(check(&book), Ok(()));
+//! let table = close(&book)?.expect("the book is live");
+//! assert_eq!(table.uppers(1), [0, 1, 1, 2]);
 //!
 //! // There is no type 2.
-//! let book = Book::new(3, 2).row(2, 2, 1, None);
-//! assert_eq!(check(&book.to_bytes()), Err(Refusal::RowType));
+//! let book = Book::new(3, 2).row(2, 2, 1, None).to_bytes();
+//! assert_eq!(check(&book), Err(Refusal::RowType));
+//! # Ok::<(), Refusal>(())
 //! ```
 
 mod book;
 mod refusal;
 mod sys;
+mod table;
 
 pub use book::Book;
 pub use refusal::Refusal;
+pub use table::Table;
+
+/// The most bytes that [`close_into`] writes into each output: 257 elements of 2 bytes for each of 32 types.
+pub const TABLE_BYTES: usize = 2 * 32 * 257;
+
+/// Whether a good book is live.
+#[derive(Clone, Copy, Debug, PartialEq, Eq, Hash)]
+pub enum Verdict {
+    Live,
+    Dead,
+}
 
 /// Whether `book` is a good book, or else the first refusal: 1 to 4, then the masks by slot, then the
 /// rows in order, each 6, 7, 8.
@@ -42,11 +58,93 @@ pub use refusal::Refusal;
 pub fn check(book: &[u8]) -> Result<(), Refusal> {
     match sys::check(book) {
         0 => Ok(()),
-        answer => match Refusal::from_answer(answer) {
-            Some(refusal) => Err(refusal),
-            None => {
-                panic!("nested_gcc_check answered {answer}, which is no answer of this library")
-            }
-        },
+        answer => Err(refusal("nested_gcc_check", answer)),
+    }
+}
+
+/// The loosest closed table within the book's rows, or `None` if the book is dead: no closed table lies
+/// within them.
+///
+/// Every plan that keeps the rows keeps these bounds. The table follows from n, k and the rows; the masks
+/// have no part in it. Any bytes may be given; the refusals are those of [`check`].
+///
+/// # Panics
+///
+/// If the linked archive answers a number that is none of this crate's: it is then another archive.
+///
+/// ```
+/// use nested_gcc::{close, Book, Refusal};
+///
+/// // Five slots and three types; at least two of type 1 and one of type 2, so at most two of type 0, and
+/// // these may both be made within the first two slots.
+/// let book = Book::new(5, 3).row(1, 5, 2, None).row(2, 5, 1, None).to_bytes();
+/// let table = close(&book)?.expect("the book is live");
+/// assert_eq!(table.uppers(0), [0, 1, 2, 2, 2, 2]);
+/// assert_eq!(table.lower(1, 4), 1);
+/// assert_eq!((table.slots(), table.types()), (5, 3));
+///
+/// // Two of one type cannot be made in one slot.
+/// let book = Book::new(2, 2).row(0, 1, 2, None).to_bytes();
+/// assert_eq!(close(&book), Ok(None));
+///
+/// assert_eq!(close(&[]), Err(Refusal::TooShort));
+/// # Ok::<(), Refusal>(())
+/// ```
+pub fn close(book: &[u8]) -> Result<Option<Table>, Refusal> {
+    let mut lowers = vec![0; TABLE_BYTES];
+    let mut uppers = vec![0; TABLE_BYTES];
+    Ok(match close_into(book, &mut lowers, &mut uppers)? {
+        Verdict::Dead => None,
+        Verdict::Live => {
+            // A live book is a good one: n stands in its bytes 0 and 1, k in byte 2.
+            let slots = usize::from(u16::from_le_bytes([book[0], book[1]]));
+            let written = 2 * usize::from(book[2]) * (slots + 1);
+            Some(Table::from_bytes(slots, &lowers[..written], &uppers[..written]))
+        }
+    })
+}
+
+/// Closes the book into the caller's bytes: two outputs of k(n + 1) elements of 16 bits, little-endian, the
+/// bound for type v and end t at element v(n + 1) + t.
+///
+/// Live writes the table of [`close`] and dead fills those elements of each output with 0; what lies past
+/// them stays as it is, also a trailing odd byte. A refusal writes nothing. [`Refusal::OutputTooShort`] comes
+/// after the refusals of [`check`], whether the book is live or dead. No good book needs more than
+/// [`TABLE_BYTES`] in each output.
+///
+/// # Panics
+///
+/// If the linked archive answers a number that is none of this crate's: it is then another archive.
+///
+/// ```
+/// use nested_gcc::{close_into, Book, Refusal, Verdict};
+///
+/// // One slot and one type: two elements. The fifth byte stays.
+/// let book = Book::new(1, 1).to_bytes();
+/// let (mut lowers, mut uppers) = ([7; 5], [7; 4]);
+/// assert_eq!(close_into(&book, &mut lowers, &mut uppers), Ok(Verdict::Live));
+/// assert_eq!(lowers, [0, 0, 1, 0, 7]);
+/// assert_eq!(uppers, [0, 0, 1, 0]);
+///
+/// assert_eq!(close_into(&book, &mut lowers, &mut uppers[..3]), Err(Refusal::OutputTooShort));
+/// ```
+pub fn close_into(book: &[u8], lowers: &mut [u8], uppers: &mut [u8]) -> Result<Verdict, Refusal> {
+    verdict("nested_gcc_close", sys::close(book, lowers, uppers))
+}
+
+/// What `function` answered.
+fn verdict(function: &str, answer: u32) -> Result<Verdict, Refusal> {
+    match answer {
+        0 => Ok(Verdict::Live),
+        1 => Ok(Verdict::Dead),
+        _ => Err(refusal(function, answer)),
+    }
+}
+
+/// The refusal that `function` answered.
+fn refusal(function: &str, answer: u32) -> Refusal {
+    match Refusal::from_answer(answer) {
+        Some(refusal) => refusal,
+        None => panic!("{function} answered {answer}, which is no answer of this library"),
     }
 }

@@ -4,7 +4,7 @@ use std::fmt;
 /// What an exported function adds to a refusal's number.
 const REFUSED: u32 = 256;
 
-/// Why a book is refused.
+/// Why a book, or what was lent with it, is refused.
 ///
 /// ```
 /// use nested_gcc::Refusal;
@@ -31,10 +31,12 @@ pub enum Refusal {
     RowEnd,
     /// 8: lower above 256; upper above 256, not 65535.
     RowBound,
+    /// 9: a lent output too short.
+    OutputTooShort,
 }
 
 /// Each refusal with its number and its words.
-const TABLE: [(Refusal, u32, &str); 8] = [
+const TABLE: [(Refusal, u32, &str); 9] = [
     (Refusal::TooShort, 1, "book under 12 bytes"),
     (Refusal::OutOfRange, 2, "n, k or r out of range"),
     (Refusal::ReservedByte, 3, "byte 3 not 0"),
@@ -43,6 +45,7 @@ const TABLE: [(Refusal, u32, &str); 8] = [
     (Refusal::RowType, 6, "row type k or more, or its second byte not 0"),
     (Refusal::RowEnd, 7, "end 0 or above n"),
     (Refusal::RowBound, 8, "lower above 256; upper above 256, not 65535"),
+    (Refusal::OutputTooShort, 9, "a lent output too short"),
 ];
 
 impl Refusal {

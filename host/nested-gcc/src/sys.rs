@@ -2,6 +2,14 @@
 
 extern "C" {
     fn nested_gcc_check(book: *const u8, book_len: usize) -> u32;
+    fn nested_gcc_close(
+        book: *const u8,
+        book_len: usize,
+        lowers: *mut u8,
+        lowers_len: usize,
+        uppers: *mut u8,
+        uppers_len: usize,
+    ) -> u32;
 }
 
 /// 0 for a good book, else 256 + the refusal number.
@@ -9,4 +17,20 @@ pub fn check(book: &[u8]) -> u32 {
     // SAFETY: the pointer and the length are those of a slice, so the pointer is not null and the bytes
     // are readable and unchanged during the call, which only reads them.
     unsafe { nested_gcc_check(book.as_ptr(), book.len()) }
+}
+
+/// 0 for a live book, 1 for a dead one, else 256 + the refusal number.
+pub fn close(book: &[u8], lowers: &mut [u8], uppers: &mut [u8]) -> u32 {
+    // SAFETY: as for `check`; the outputs are slices too, writable, and none of the three overlaps another,
+    // since two of them are borrowed mutably.
+    unsafe {
+        nested_gcc_close(
+            book.as_ptr(),
+            book.len(),
+            lowers.as_mut_ptr(),
+            lowers.len(),
+            uppers.as_mut_ptr(),
+            uppers.len(),
+        )
+    }
 }

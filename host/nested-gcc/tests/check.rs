@@ -111,6 +111,7 @@ fn words_and_numbers_of_the_table() {
         (Refusal::RowType, 6, "row type k or more, or its second byte not 0"),
         (Refusal::RowEnd, 7, "end 0 or above n"),
         (Refusal::RowBound, 8, "lower above 256; upper above 256, not 65535"),
+        (Refusal::OutputTooShort, 9, "a lent output too short"),
     ];
     for (refusal, number, words) in table {
         assert_eq!(refusal.number(), number);

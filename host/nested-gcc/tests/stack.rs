@@ -1,12 +1,14 @@
 //! The stack that a call needs: measured on a thread whose stack is painted beforehand.
 
 use std::ffi::c_void;
+use std::fmt::Debug;
 use std::ptr;
 
-use nested_gcc::{check, Book};
+use nested_gcc::{check, close_into, Book, Refusal, Verdict, TABLE_BYTES};
 
-/// What include/nested_gcc.h promises.
-const PROMISED: usize = 4096;
+// What include/nested_gcc.h promises for each function.
+const CHECK: usize = 4 * 1024;
+const CLOSE: usize = 48 * 1024;
 
 const STACK: usize = 256 * 1024;
 const PAINT: u8 = 0xa5;
@@ -34,10 +36,9 @@ struct Stack([u8; STACK]);
 
 /// What a thread is given, and what it leaves.
 struct Task<'a> {
-    book: &'a [u8],
-    /// Where the frame of the caller of `check` lies.
+    call: &'a mut (dyn FnMut() + 'a),
+    /// Where the frame of the caller of `call` lies.
     frame: usize,
-    good: bool,
 }
 
 extern "C" fn run(argument: *mut c_void) -> *mut c_void {
@@ -45,15 +46,15 @@ extern "C" fn run(argument: *mut c_void) -> *mut c_void {
     let task = unsafe { &mut *argument.cast::<Task>() };
     let mark = 0u8;
     task.frame = ptr::from_ref(&mark) as usize;
-    task.good = check(task.book).is_ok();
+    (task.call)();
     ptr::null_mut()
 }
 
-/// How far below its caller's frame a call of `check` writes, and whether the book is good. The few
-/// bytes of the caller below its mark are counted too.
-fn bytes_needed(book: &[u8]) -> (usize, bool) {
+/// How far below its caller's frame `call` writes. The few bytes of the caller below its mark are counted
+/// too.
+fn bytes_needed(call: &mut dyn FnMut()) -> usize {
     let mut stack = Box::new(Stack([PAINT; STACK]));
-    let mut task = Task { book, frame: 0, good: false };
+    let mut task = Task { call, frame: 0 };
     let mut attributes = Attributes([0; 128]);
     let mut thread = 0;
     // SAFETY: the stack, the attributes and the task outlive the thread, which is joined here.
@@ -68,27 +69,62 @@ fn bytes_needed(book: &[u8]) -> (usize, bool) {
     let bottom = stack.0.as_ptr() as usize;
     let untouched = stack.0.iter().take_while(|&&byte| byte == PAINT).count();
     assert!(untouched > 0, "the thread used its whole stack");
-    (task.frame - (bottom + untouched), task.good)
+    task.frame - (bottom + untouched)
+}
+
+/// Runs `call` on each book: it answers what is expected, and needs no more stack than is promised.
+fn measure<T: PartialEq + Debug>(
+    promised: usize,
+    mut call: impl FnMut(&[u8]) -> T,
+    books: &[(&str, Vec<u8>, T)],
+) {
+    for (name, book, expected) in books {
+        let mut answer = None;
+        let needed = bytes_needed(&mut || answer = Some(call(book)));
+        println!("{name}: {needed} bytes of stack");
+        assert_eq!(answer.as_ref(), Some(expected), "{name}");
+        assert!(needed <= promised, "{name}: {needed} bytes of stack");
+    }
+}
+
+/// 256 slots, 32 types and 1023 rows: with one more row it is as long as a good book can be.
+fn almost_longest() -> Book {
+    let mut book = Book::new(256, 32);
+    for row in 0..1023 {
+        book = book.row((row % 32) as u8, 256, 8, None);
+    }
+    book
 }
 
 #[test]
-fn a_call_needs_at_most_the_promised_stack() {
-    let mut almost = Book::new(256, 32);
-    for _ in 0..1023 {
-        almost = almost.row(31, 256, 256, None);
-    }
-    let longest = almost.clone().row(31, 256, 256, None);
-    let late_fault = almost.row(31, 256, 257, None);
+fn check_needs_at_most_the_promised_stack() {
+    let longest = almost_longest().row(31, 256, 8, None);
+    let late_fault = almost_longest().row(31, 256, 257, None);
     let books = [
-        ("the longest book", longest.to_bytes(), true),
-        ("a fault in the last row", late_fault.to_bytes(), false),
-        ("the shortest book", Book::new(1, 1).to_bytes(), true),
-        ("no bytes", Vec::new(), false),
+        ("the longest book", longest.to_bytes(), Ok(())),
+        ("a fault in the last row", late_fault.to_bytes(), Err(Refusal::RowBound)),
+        ("the shortest book", Book::new(1, 1).to_bytes(), Ok(())),
+        ("no bytes", Vec::new(), Err(Refusal::TooShort)),
     ];
-    for (name, book, expected) in books {
-        let (needed, good) = bytes_needed(&book);
-        println!("{name}: {needed} bytes of stack");
-        assert_eq!(good, expected, "{name}");
-        assert!(needed <= PROMISED, "{name}: {needed} bytes of stack");
-    }
+    measure(CHECK, check, &books);
+}
+
+#[test]
+fn close_needs_at_most_the_promised_stack() {
+    let longest = almost_longest().row(31, 256, 8, None);
+    let late_fault = almost_longest().row(31, 256, 257, None);
+    // 32 types with at least 8 each in 256 slots leave no room for a ninth.
+    let dead = almost_longest().row(31, 256, 9, None);
+    let books = [
+        ("the longest book", longest.to_bytes(), Ok(Verdict::Live)),
+        ("a dead book", dead.to_bytes(), Ok(Verdict::Dead)),
+        ("a fault in the last row", late_fault.to_bytes(), Err(Refusal::RowBound)),
+        ("the shortest book", Book::new(1, 1).to_bytes(), Ok(Verdict::Live)),
+        ("no bytes", Vec::new(), Err(Refusal::TooShort)),
+    ];
+    let mut lowers = vec![0; TABLE_BYTES];
+    let mut uppers = vec![0; TABLE_BYTES];
+    measure(CLOSE, |book| close_into(book, &mut lowers, &mut uppers), &books);
+    let short = [("an output too short", longest.to_bytes(), Err(Refusal::OutputTooShort))];
+    measure(CLOSE, |book| close_into(book, &mut lowers, &mut uppers[1..]), &short);
 }

@@ -1,0 +1,3 @@
+pub mod CloseLaws
+mod FillLaws
+mod StartedLaws

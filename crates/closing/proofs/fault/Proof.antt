@@ -1,0 +1,61 @@
+-- `closing::fault` meets its contract: the reader's number where it is not 0, else the two tests of the room (`closeFault-book`,
+-- `closeFault-lowers`, `closeFault-uppers`, `closeFault-none`). Assumes nothing.
+use mathlib.Core.Path.{_≡_, sym, _∙_}
+use native.Mathlib.Omega.{arith}
+use borrow.Author.Needs.{needs}
+use Rattle.book.specs.Refusal.{refusal}
+use Rattle.book.proofs.RefusalLaws.{refusal-le-8}
+use Rattle.book.proofs.BookLaws.{good-facts}
+use Rattle.closing.proofs.CloseLaws.{closeFault-book, closeFault-lowers, closeFault-uppers, closeFault-none}
+use Rattle.closing.proofs.fault.Statement.{statement}
+use Rattle.closing.proofs.fault.Tie as tie
+
+-- the reader's number is the book's own
+is-refusal : (c : tie.After-number) → c .number .result ≡ refusal (c .before .before .before .args .limits) (c .before .before .before .args .book .now)
+is-refusal c = c .number .ensures ∙ c .before .read .ensures
+
+accepted : (c : tie.Else1) → refusal (c .before .before .before .before .args .limits) (c .before .before .before .before .args .book .now) ≡ 0
+accepted c = sym (is-refusal (c .before)) ∙ c .if1 .left
+
+read-requires : tie.Need-read-requires
+read-requires c κs = search needs
+
+number-requires : tie.Need-number-requires
+number-requires c κs = search needs
+
+cast-result : tie.Need-cast-result
+cast-result c = omega (arith, is-refusal (c .before), refusal-le-8 (c .before .before .before .before .args .limits) (c .before .before .before .before .args .book .now))
+
+returns : tie.Need-returns
+returns c = is-refusal (c .before) ∙ sym (closeFault-book _ _ _ _ (λ none. c .if1 .taken (is-refusal (c .before) ∙ none)))
+
+table-size-requires : tie.Need-table-size-requires
+table-size-requires c κs = good-facts (c .before .before .before .before .args .limits) (c .before .before .before .before .args .book .now) (accepted c) .header .header-inside
+
+returns-2 : tie.Need-returns-2
+returns-2 c = sym (closeFault-lowers _ _ _ _ (accepted (c .before .before)) (rw (c .before .table-size .ensures) at (c .if2 .taken)))
+
+returns-3 : tie.Need-returns-3
+returns-3 c =
+    sym
+    (closeFault-uppers _ _ _ _ (accepted (c .before .before .before)) (rw (c .before .before .table-size .ensures) at (c .before .if2 .left))
+    (rw (c .before .before .table-size .ensures) at (c .if3 .taken)))
+
+returns-4 : tie.Need-returns-4
+returns-4 c =
+    sym
+    (closeFault-none _ _ _ _ (accepted (c .before .before .before)) (rw (c .before .before .table-size .ensures) at (c .before .if2 .left))
+    (rw (c .before .before .table-size .ensures) at (c .if3 .left)))
+
+pub fault-spec : {M : Type 1} → statement M
+fault-spec =
+    tie.close
+    (tie.spec
+    read-requires
+    number-requires
+    cast-result
+    returns
+    table-size-requires
+    returns-2
+    returns-3
+    returns-4)
