@@ -3,17 +3,17 @@
 -- lent and comes back written).
 -- Assumes nothing.
 use mathlib.Core.Path.{_≡_, refl, sym, ap, _∙_}
-use mathlib.Core.Bool.{true, false, _||_}
+use mathlib.Core.Bool.{false}
 use mathlib.Core.List.{List, [], _++_}
 use mathlib.Core.Option.{Option, none, some}
-use Prim.Native.Nat.{ℕ, zero, suc, _+_, _*_, _≤_, _<_}
+use Prim.Native.Nat.{ℕ, zero, suc, _+_, _≤_, _<_}
 use native.Mathlib.Omega.{arith}
 use lib.Dec.{ltb, lit<}
 use lib.ListN.{length, drop, replicate}
 use borrow.Author.Tests.{lt-ltb, le-ltb, ltb-false}
 use Rattle.book.specs.declared.Limits.{Limits}
 use Rattle.book.specs.Layout.{slots, values, rows}
-use Rattle.book.specs.Refusal.{fault, _orElse_, refusal}
+use Rattle.book.specs.Refusal.{_orElse_, refusal}
 use Rattle.book.specs.GoodFacts.{GoodFacts}
 use Rattle.book.proofs.RefusalLaws.{fault-none, none-of-or, orElse-none, orElse-some, none-of-orElse}
 use Rattle.book.proofs.BookLaws.{good-facts}

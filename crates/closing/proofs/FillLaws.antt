@@ -5,10 +5,10 @@
 use mathlib.Core.Path.{_≡_, refl, sym, ap, _∙_}
 use mathlib.Core.List.{List, [], _∷_, _++_, append-nil}
 use Prim.Native.Nat.{ℕ, zero, suc, _+_, _*_, _/_, _%_, _≤_, _<_}
-use native.Mathlib.Nat.{div-add-mod', mul-add-mod-self-right, le-refl}
+use native.Mathlib.Nat.{div-add-mod', mul-add-mod-self-right}
 use native.Mathlib.Numerals.{add-one}
 use native.Mathlib.Omega.{arith}
-use lib.ListN.{length, getD, set, drop, replicate, length-append, length-set, replicate-append-replicate}
+use lib.ListN.{length, getD, set, drop, replicate, length-set, replicate-append-replicate}
 use lib.Seq.{set-at, drop-cons, drop-length, append-snoc}
 use Rattle.book.specs.Layout.{listOf}
 use Rattle.book.proofs.LayoutLaws.{length-listOf}
