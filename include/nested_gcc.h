@@ -4,6 +4,7 @@
  *
  * nested_gcc_check    whether the bytes are a good book
  * nested_gcc_close    the bounds that follow from a book's rows, or that the book is dead
+ * nested_gcc_settle   the types that each slot may still have, or that the book is dead
  *
  * A book, in little-endian numbers: slots n (2 bytes, 1 to 256), types k (1 byte, 1 to 32), a byte 0,
  * row count r (2 bytes, 0 to 1024), offset of the masks (2 bytes, 12), offset of the rows (2 bytes,
@@ -93,6 +94,33 @@ uint32_t nested_gcc_check(const uint8_t *book, size_t book_len);
 uint32_t nested_gcc_close(const uint8_t *book, size_t book_len,
                           uint8_t *lowers, size_t lowers_len,
                           uint8_t *uppers, size_t uppers_len);
+
+/* The most bytes that nested_gcc_settle writes into its output: 4 * 256. */
+#define NESTED_GCC_MASKS_BYTES 1024u
+
+/*
+ * Settles a book: closes it, then strikes from its masks the types that the closed bounds rule out. The output
+ * has n elements of 32 bits, the mask of slot s at element s.
+ *
+ * For a list of n masks, a slot is fixed to v when v is its only type; P(v, t) counts the slots before t that
+ * have v, and B(v, t) those fixed to v. With the bounds of nested_gcc_close the list is stable when no mask is
+ * empty and for each type v and each end t, 1 to n,
+ * - P(v, t) is at least lower(v, t); where they are equal, each slot before t that has v is fixed to it;
+ * - B(v, t) is at most upper(v, t); where they are equal, each slot before t not fixed to v lacks v.
+ *
+ * NESTED_GCC_LIVE: writes the largest stable list within the book's masks: every other one lies within it, and
+ *     so does every plan. There may be no plan all the same.
+ * NESTED_GCC_DEAD: nested_gcc_close answers dead, or no stable list lies within the masks, so there is no plan.
+ *     Fills the n elements with 0.
+ * Refusals: 1 to 8; then 9 if the output has fewer than n whole elements, be the book live or dead. The output
+ *     is not touched.
+ * Bytes past the n elements stay as they are.
+ *
+ * Stack: 86 KiB, and up to 512 bytes for each strike that is nested in another. The deepest nesting found, a
+ * chain of 255 strikes, needs 152 KiB in all; 256 KiB is what the test holds. A strike takes a type out of a
+ * mask before it goes deeper, so no book nests more than 8192 of them: 5 MiB suffices for every book.
+ */
+uint32_t nested_gcc_settle(const uint8_t *book, size_t book_len, uint8_t *masks, size_t masks_len);
 
 #ifdef __cplusplus
 }

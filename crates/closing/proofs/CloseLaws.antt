@@ -66,7 +66,7 @@ module _ (limits : Limits) (b : List ℕ) (lowersRoom uppersRoom : ℕ) where
 
 -- ---- closeOf
 
-unless-some : (x : ℕ) (o : Outcome) → (x ≡ 0 → ⊥) → unless x o ≡ refused x
+pub unless-some : (x : ℕ) (o : Outcome) → (x ≡ 0 → ⊥) → unless x o ≡ refused x
 unless-some zero o refusing = absurd (refusing refl)
 unless-some (suc x) o refusing = refl
 

@@ -1,3 +1,3 @@
 pub mod CloseLaws
-mod FillLaws
+pub mod FillLaws
 mod StartedLaws

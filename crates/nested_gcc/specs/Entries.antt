@@ -4,6 +4,8 @@
 --   checkAnswer b     what check answers for the bytes b: 0 for a good book
 --   CloseEntry b L U r L′ U′   of book b and the outputs L and U as they are lent: r is what close answers, and L′ and U′ are the outputs as they
 --                     come back; elements are 16 bits, little-endian, and a trailing byte neither counts nor is written
+--   SettleEntry b M r M′   of book b and the output M as it is lent: r is what settle answers, and M′ is the output as it comes back; masks are
+--                     32 bits, little-endian, and up to three trailing bytes neither count nor are written
 -- Assumes nothing.
 use mathlib.Core.List.{List}
 use Prim.Native.Nat.{ℕ, zero, suc, _+_}
@@ -12,6 +14,7 @@ use Rattle.book.specs.declared.Limits.{Limits}
 use Rattle.book.specs.Refusal.{refusal}
 use Rattle.elements.specs.Elements.{bytesOf, whole}
 use Rattle.closing.specs.Close.{Closes, closeOf}
+use Rattle.settling.specs.Settle.{Settles, settleOf}
 
 abbrev pub fullLimits : Limits
 fullLimits = record { slots = 256; values = 32; rows = 1024 }
@@ -25,3 +28,6 @@ checkAnswer b = answered (refusal fullLimits b)
 
 abbrev pub CloseEntry : List ℕ → List ℕ → List ℕ → ℕ → List ℕ → List ℕ → Type 0
 CloseEntry b L U r L′ U′ = Closes (bytesOf 2) (closeOf fullLimits b (whole 2 (length L)) (whole 2 (length U))) r L U L′ U′
+
+abbrev pub SettleEntry : List ℕ → List ℕ → ℕ → List ℕ → Type 0
+SettleEntry b M r M′ = Settles (bytesOf 4) (settleOf fullLimits b (whole 4 (length M))) r M M′

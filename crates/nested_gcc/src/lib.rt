@@ -2,6 +2,7 @@
 // premise: each takes every slice of every length, and answers 0 (live; of check: a good book), 1 (dead) or 256 + the number of a refusal.
 // The contracts cite `specs/Entries.antt`.
 mod bytes; // bytes.rt: the entries that write, from bytes to bytes
+mod settle; // settle.rt: settling from bytes to bytes
 
 use answer::Answer;
 use answer::word;
@@ -9,8 +10,9 @@ use book::Limits;
 use book::number;
 use book::read;
 use bytes::close_bytes;
+use settle::settle_bytes;
 ghost use mathlib.Core.Path.{_≡_};
-ghost use Rattle.nested_gcc.specs.Entries.{checkAnswer, CloseEntry};
+ghost use Rattle.nested_gcc.specs.Entries.{checkAnswer, CloseEntry, SettleEntry};
 
 // Whether book is a good book. Writes nothing, and never answers dead.
 #[no_mangle]
@@ -35,4 +37,12 @@ pub extern "C" fn nested_gcc_close(book: &[u8], lowers: &mut [u8], uppers: &mut 
     ensures { λ r. ⌜ CloseEntry (now (book .entry)) (now (lowers .entry)) (now (uppers .entry)) r (now (lowers .exit)) (now (uppers .exit)) ⌝ }
 {
     close_bytes(book, lowers, uppers)
+}
+
+// Settles the masks of book, 32 bits each.
+#[no_mangle]
+pub extern "C" fn nested_gcc_settle(book: &[u8], masks: &mut [u8]) -> u32
+    ensures { λ r. ⌜ SettleEntry (now (book .entry)) (now (masks .entry)) r (now (masks .exit)) ⌝ }
+{
+    settle_bytes(book, masks)
 }

@@ -1,7 +1,7 @@
 //! A closing in plain Rust, written for speed: the same sweeps as the proved one, each type's line forward
 //! and back and then across the types by sums, in place on two tables of 16 bits, until a sweep changes
 //! nothing. Its tables have the types of one end side by side, which vector instructions take together, and
-//! are turned on writing.
+//! are turned at the end.
 
 use std::array;
 
@@ -22,21 +22,64 @@ struct Table<const L: usize> {
 /// An entry is crossed.
 struct Crossed;
 
+/// The closed bounds of all types, a line for each.
+pub struct Bounds {
+    /// n + 1.
+    ends: usize,
+    types: usize,
+    lowers: Vec<i16>,
+    uppers: Vec<i16>,
+}
+
+impl Bounds {
+    pub fn types(&self) -> usize {
+        self.types
+    }
+
+    /// The lowers of type v at the ends 0 to n.
+    pub fn lowers(&self, v: usize) -> &[i16] {
+        &self.lowers[v * self.ends..][..self.ends]
+    }
+
+    /// The uppers of type v at the ends 0 to n.
+    pub fn uppers(&self, v: usize) -> &[i16] {
+        &self.uppers[v * self.ends..][..self.ends]
+    }
+}
+
 /// Closes the book into bytes, with the answers of `nested_gcc_close`.
 pub fn close(book: &[u8], lowers: &mut [u8], uppers: &mut [u8]) -> u32 {
-    let number = refusal(book);
-    if number != 0 {
-        return 256 + number;
-    }
-    let needed = 2 * usize::from(book[2]) * (two(book, 0) as usize + 1);
-    if lowers.len() < needed || uppers.len() < needed {
+    let closed = match close_bounds(book) {
+        Ok(closed) => closed,
+        Err(number) => return 256 + number,
+    };
+    let entries = usize::from(book[2]) * (two(book, 0) as usize + 1);
+    if lowers.len() / 2 < entries || uppers.len() / 2 < entries {
         return 256 + 9;
     }
-    let (lowers, uppers) = (&mut lowers[..needed], &mut uppers[..needed]);
-    match book[2] {
-        0..=8 => close_lanes::<8>(book, lowers, uppers),
-        9..=16 => close_lanes::<16>(book, lowers, uppers),
-        _ => close_lanes::<32>(book, lowers, uppers),
+    match closed {
+        None => {
+            lowers[..2 * entries].fill(0);
+            uppers[..2 * entries].fill(0);
+            1
+        }
+        Some(bounds) => {
+            write(&bounds.lowers, lowers);
+            write(&bounds.uppers, uppers);
+            0
+        }
+    }
+}
+
+/// Closes the book: its bounds, or `None` if it is dead, or the number of its refusal.
+pub fn close_bounds(book: &[u8]) -> Result<Option<Bounds>, u32> {
+    match refusal(book) {
+        0 => Ok(match book[2] {
+            0..=8 => close_lanes::<8>(book),
+            9..=16 => close_lanes::<16>(book),
+            _ => close_lanes::<32>(book),
+        }),
+        number => Err(number),
     }
 }
 
@@ -44,25 +87,13 @@ fn two(bytes: &[u8], at: usize) -> i16 {
     i16::from_le_bytes([bytes[at], bytes[at + 1]])
 }
 
-fn close_lanes<const L: usize>(book: &[u8], lowers: &mut [u8], uppers: &mut [u8]) -> u32 {
-    let ends = two(book, 0) as usize + 1;
+fn close_lanes<const L: usize>(book: &[u8]) -> Option<Bounds> {
+    let (ends, types) = (two(book, 0) as usize + 1, usize::from(book[2]));
     let mut table = Table { lowers: [[0; L]; MOST_ENDS], uppers: [[0; L]; MOST_ENDS] };
     start(book, &mut table);
-    loop {
-        match sweep(&mut table.lowers[..ends], &mut table.uppers[..ends]) {
-            Err(Crossed) => {
-                lowers.fill(0);
-                uppers.fill(0);
-                return 1;
-            }
-            Ok(false) => {
-                write(&table.lowers[..ends], lowers);
-                write(&table.uppers[..ends], uppers);
-                return 0;
-            }
-            Ok(true) => {}
-        }
-    }
+    while sweep(&mut table.lowers[..ends], &mut table.uppers[..ends]).ok()? {}
+    let [lowers, uppers] = [&table.lowers, &table.uppers].map(|bounds| lines(&bounds[..ends], types));
+    Some(Bounds { ends, types, lowers, uppers })
 }
 
 /// Makes the starting table of one that is all 0.
@@ -131,11 +162,19 @@ fn across<const L: usize>(t: i16, lower: &mut Lanes<L>, upper: &mut Lanes<L>, ch
     set(upper, &lower.map(|lower| t - (sum - lower)), i16::min, changed);
 }
 
-/// Writes the bounds type by type.
-fn write<const L: usize>(bounds: &[Lanes<L>], output: &mut [u8]) {
-    for (v, line) in output.chunks_exact_mut(2 * bounds.len()).enumerate() {
-        for (lanes, bytes) in bounds.iter().zip(line.chunks_exact_mut(2)) {
-            bytes.copy_from_slice(&lanes[v].to_le_bytes());
+/// The bounds with a line for each type.
+fn lines<const L: usize>(bounds: &[Lanes<L>], types: usize) -> Vec<i16> {
+    let mut lines = vec![0; types * bounds.len()];
+    for (v, line) in lines.chunks_exact_mut(bounds.len()).enumerate() {
+        for (lanes, entry) in bounds.iter().zip(line) {
+            *entry = lanes[v];
         }
+    }
+    lines
+}
+
+fn write(entries: &[i16], output: &mut [u8]) {
+    for (entry, bytes) in entries.iter().zip(output.chunks_exact_mut(2)) {
+        bytes.copy_from_slice(&entry.to_le_bytes());
     }
 }

@@ -1,8 +1,10 @@
 //! The proved filter of order books, as a safe crate over `libnested_gcc.a`.
 //!
-//! [`check`] says whether bytes are a good book, or else the first [`Refusal`]. [`close`] gives the bounds
-//! that follow from the rows of a book, as a [`Table`], or says that the book is dead; [`close_into`] writes
-//! them into the caller's bytes. [`Book`] writes the bytes of a book.
+//! - [`check`] says whether bytes are a good book, or else the first [`Refusal`].
+//! - [`close`] gives the bounds that follow from the rows of a book, as a [`Table`], or says that it is dead.
+//! - [`settle`] gives the types that each slot may still have, or says that the book is dead.
+//! - [`close_into`] and [`settle_into`] write the same into the caller's bytes.
+//! - [`Book`] writes the bytes of a book.
 //!
 //! ```
 //! use nested_gcc::{check, close, Book, Refusal};
@@ -30,6 +32,9 @@ pub use table::Table;
 
 /// The most bytes that [`close_into`] writes into each output: 257 elements of 2 bytes for each of 32 types.
 pub const TABLE_BYTES: usize = 2 * 32 * 257;
+
+/// The most bytes that [`settle_into`] writes: 4 for each of 256 slots.
+pub const MASKS_BYTES: usize = 4 * 256;
 
 /// Whether a good book is live.
 #[derive(Clone, Copy, Debug, PartialEq, Eq, Hash)]
@@ -96,8 +101,8 @@ pub fn close(book: &[u8]) -> Result<Option<Table>, Refusal> {
     Ok(match close_into(book, &mut lowers, &mut uppers)? {
         Verdict::Dead => None,
         Verdict::Live => {
-            // A live book is a good one: n stands in its bytes 0 and 1, k in byte 2.
-            let slots = usize::from(u16::from_le_bytes([book[0], book[1]]));
+            // A live book is a good one, with k in its byte 2.
+            let slots = slots(book);
             let written = 2 * usize::from(book[2]) * (slots + 1);
             Some(Table::from_bytes(slots, &lowers[..written], &uppers[..written]))
         }
@@ -130,6 +135,76 @@ pub fn close(book: &[u8]) -> Result<Option<Table>, Refusal> {
 /// ```
 pub fn close_into(book: &[u8], lowers: &mut [u8], uppers: &mut [u8]) -> Result<Verdict, Refusal> {
     verdict("nested_gcc_close", sys::close(book, lowers, uppers))
+}
+
+/// For each slot the types that it may still have, bit v for type v: the largest stable list within the
+/// book's masks. `None` if the book is dead: it does not close, or no stable list lies within its masks.
+///
+/// Every plan lies within these masks; there may be none all the same. A list is stable when no mask is empty
+/// and for each type v and each end t from 1, with the bounds of [`close`]: the slots before t that have v
+/// are at least lower(v, t), and if they are just so many, v is the only type of each; the slots before t
+/// whose only type is v are at most upper(v, t), and if they are just so many, no other slot before t has v.
+/// Any bytes may be given; the refusals are those of [`check`].
+///
+/// # Panics
+///
+/// If the linked archive answers a number that is none of this crate's: it is then another archive.
+///
+/// ```
+/// use nested_gcc::{settle, Book, Refusal};
+///
+/// // Five slots and three types; at least two of type 1 and one of type 2, so at most two of type 0. Two slots
+/// // can only have type 0, so that no other slot has it.
+/// let book = Book::new(5, 3).mask(0, 0b001).mask(1, 0b001).row(1, 5, 2, None).row(2, 5, 1, None);
+/// assert_eq!(settle(&book.to_bytes())?, Some(vec![0b001, 0b001, 0b110, 0b110, 0b110]));
+///
+/// // A third slot of type 0 is one too many.
+/// let book = book.mask(2, 0b001);
+/// assert_eq!(settle(&book.to_bytes())?, None);
+///
+/// assert_eq!(settle(&[]), Err(Refusal::TooShort));
+/// # Ok::<(), Refusal>(())
+/// ```
+pub fn settle(book: &[u8]) -> Result<Option<Vec<u32>>, Refusal> {
+    let mut masks = [0; MASKS_BYTES];
+    Ok(match settle_into(book, &mut masks)? {
+        Verdict::Dead => None,
+        Verdict::Live => {
+            let written = &masks[..4 * slots(book)];
+            Some(written.chunks_exact(4).map(|mask| u32::from_le_bytes(mask.try_into().unwrap())).collect())
+        }
+    })
+}
+
+/// Settles the book into the caller's bytes: n elements of 32 bits, little-endian, the mask of slot s at
+/// element s.
+///
+/// Live writes the masks of [`settle`] and dead fills those elements with 0; what lies past them stays as it
+/// is, also a trailing part of an element. A refusal writes nothing. [`Refusal::OutputTooShort`] comes after
+/// the refusals of [`check`], whether the book is live or dead. No good book needs more than [`MASKS_BYTES`].
+///
+/// # Panics
+///
+/// If the linked archive answers a number that is none of this crate's: it is then another archive.
+///
+/// ```
+/// use nested_gcc::{settle_into, Book, Refusal, Verdict};
+///
+/// // One slot and two types, none of type 0. The fifth byte stays.
+/// let book = Book::new(1, 2).row(0, 1, 0, Some(0)).to_bytes();
+/// let mut masks = [7; 5];
+/// assert_eq!(settle_into(&book, &mut masks), Ok(Verdict::Live));
+/// assert_eq!(masks, [0b10, 0, 0, 0, 7]);
+///
+/// assert_eq!(settle_into(&book, &mut masks[..3]), Err(Refusal::OutputTooShort));
+/// ```
+pub fn settle_into(book: &[u8], masks: &mut [u8]) -> Result<Verdict, Refusal> {
+    verdict("nested_gcc_settle", sys::settle(book, masks))
+}
+
+/// n of a good book, which stands in its bytes 0 and 1.
+fn slots(book: &[u8]) -> usize {
+    usize::from(u16::from_le_bytes([book[0], book[1]]))
 }
 
 /// What `function` answered.

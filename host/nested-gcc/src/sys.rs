@@ -10,6 +10,7 @@ extern "C" {
         uppers: *mut u8,
         uppers_len: usize,
     ) -> u32;
+    fn nested_gcc_settle(book: *const u8, book_len: usize, masks: *mut u8, masks_len: usize) -> u32;
 }
 
 /// 0 for a good book, else 256 + the refusal number.
@@ -33,4 +34,11 @@ pub fn close(book: &[u8], lowers: &mut [u8], uppers: &mut [u8]) -> u32 {
             uppers.len(),
         )
     }
+}
+
+/// 0 for a live book, 1 for a dead one, else 256 + the refusal number.
+pub fn settle(book: &[u8], masks: &mut [u8]) -> u32 {
+    // SAFETY: as for `check`; the output is a slice too, writable, and apart from the book, since it is
+    // borrowed mutably.
+    unsafe { nested_gcc_settle(book.as_ptr(), book.len(), masks.as_mut_ptr(), masks.len()) }
 }

@@ -1,16 +1,19 @@
 //! The stack that a call needs: measured on a thread whose stack is painted beforehand.
 
+mod chains;
+
 use std::ffi::c_void;
 use std::fmt::Debug;
 use std::ptr;
 
-use nested_gcc::{check, close_into, Book, Refusal, Verdict, TABLE_BYTES};
+use nested_gcc::{check, close_into, settle_into, Book, Refusal, Verdict, MASKS_BYTES, TABLE_BYTES};
 
 // What include/nested_gcc.h promises for each function.
 const CHECK: usize = 4 * 1024;
 const CLOSE: usize = 48 * 1024;
+const SETTLE: usize = 256 * 1024;
 
-const STACK: usize = 256 * 1024;
+const STACK: usize = 1024 * 1024;
 const PAINT: u8 = 0xa5;
 
 /// Space for a `pthread_attr_t`, which has 56 bytes on x86-64 Linux.
@@ -127,4 +130,26 @@ fn close_needs_at_most_the_promised_stack() {
     measure(CLOSE, |book| close_into(book, &mut lowers, &mut uppers), &books);
     let short = [("an output too short", longest.to_bytes(), Err(Refusal::OutputTooShort))];
     measure(CLOSE, |book| close_into(book, &mut lowers, &mut uppers[1..]), &short);
+}
+
+#[test]
+fn settle_needs_at_most_the_promised_stack() {
+    let longest = almost_longest().row(31, 256, 8, None);
+    let late_fault = almost_longest().row(31, 256, 257, None);
+    // 32 types with at least 8 each in 256 slots leave no room for a ninth.
+    let dead = almost_longest().row(31, 256, 9, None);
+    let books = [
+        ("the longest book", longest.to_bytes(), Ok(Verdict::Live)),
+        ("a dead book", dead.to_bytes(), Ok(Verdict::Dead)),
+        ("a chain of strikes", chains::strikes().to_bytes(), Ok(Verdict::Live)),
+        ("a chain of fixes", chains::fixes().to_bytes(), Ok(Verdict::Live)),
+        ("a chain that ends dead", chains::strikes().mask(255, 1 << 30).to_bytes(), Ok(Verdict::Dead)),
+        ("a fault in the last row", late_fault.to_bytes(), Err(Refusal::RowBound)),
+        ("the shortest book", Book::new(1, 1).to_bytes(), Ok(Verdict::Live)),
+        ("no bytes", Vec::new(), Err(Refusal::TooShort)),
+    ];
+    let mut masks = [0; MASKS_BYTES];
+    measure(SETTLE, |book| settle_into(book, &mut masks), &books);
+    let short = [("an output too short", longest.to_bytes(), Err(Refusal::OutputTooShort))];
+    measure(SETTLE, |book| settle_into(book, &mut masks[1..]), &short);
 }

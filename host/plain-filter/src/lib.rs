@@ -5,9 +5,12 @@
 //! - [`Book`]: a good book, taken apart.
 //! - [`start`]: the starting table of a book.
 //! - [`close`]: the loosest closed table, or dead.
+//! - [`settle`]: the largest stable list, or dead.
 
 mod book;
 mod closing;
+mod settling;
 
 pub use book::{refusal, Book, Row};
 pub use closing::{close, start, Closing, Table};
+pub use settling::{settle, Death, Settling};

@@ -3,6 +3,7 @@
 //! - [`Random`]: the generator of numbers.
 //! - [`plan`], [`count`]: a random plan, and how many of a type it has before an end.
 //! - [`near_plan`]: a book whose rows lie near the counts of a plan.
+//! - [`masks_around`]: masks that hold a plan, and more types or fewer.
 //! - [`bytes`]: the bytes of a book.
 
 use plain_filter::{Book, Row};
@@ -94,6 +95,14 @@ pub fn near_plan(random: &mut Random, plan: &[usize], k: usize, rows: usize, sla
         })
         .collect();
     Book { n, k, masks: vec![every_type(k); n], rows }
+}
+
+/// For each slot the plan's type, and each other type in so many of eight cases.
+pub fn masks_around(random: &mut Random, plan: &[usize], k: usize, eighths: usize) -> Vec<u32> {
+    let with_others = |&board_type: &usize| {
+        (0..k).filter(|&v| v == board_type || random.below(8) < eighths).fold(0, |mask, v| mask | 1 << v)
+    };
+    plan.iter().map(with_others).collect()
 }
 
 /// The bytes of the book. Each field is cut to its width; the counts are n, k and that of the rows, and

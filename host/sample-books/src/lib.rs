@@ -1,5 +1,6 @@
-//! The bundled books: those of document 01's worked table, M1 to M8, and one bad book for each refusal
-//! number, after the table's example. Where the worked table names no masks, each slot may have each type.
+//! The bundled books: those of document 01's worked table, M1 to M8; M4 with only type 0 in its first two
+//! slots; and one bad book for each refusal number, after the table's example. Where the worked table names
+//! no masks, each slot may have each type.
 
 use nested_gcc::Book;
 
@@ -17,6 +18,10 @@ const MASK_OF_SLOT_0: usize = 12;
 const ROW_TYPE: usize = 24;
 const ROW_END: usize = 26;
 const ROW_LOWER: usize = 28;
+
+fn m4() -> Book {
+    Book::new(5, 3).row(1, 5, 2, None).row(2, 5, 1, None)
+}
 
 fn m8() -> Book {
     Book::new(3, 2).row(0, 2, 1, None)
@@ -44,7 +49,8 @@ pub fn samples() -> Vec<Sample> {
         ("M1", Book::new(1, 1).to_bytes()),
         ("M2", Book::new(5, 2).row(0, 4, 2, None).to_bytes()),
         ("M3", Book::new(5, 2).row(0, 4, 0, Some(2)).to_bytes()),
-        ("M4", Book::new(5, 3).row(1, 5, 2, None).row(2, 5, 1, None).to_bytes()),
+        ("M4", m4().to_bytes()),
+        ("M4_two_slots_fixed", m4().mask(0, 1).mask(1, 1).to_bytes()),
         ("M5", Book::new(2, 2).row(0, 1, 2, None).to_bytes()),
         ("M6", Book::new(2, 2).row(0, 1, 1, None).row(1, 1, 1, None).to_bytes()),
         ("M7", m7.to_bytes()),

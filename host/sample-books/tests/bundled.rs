@@ -24,10 +24,10 @@ fn files_are_the_generators() {
     assert!(bundled() == made, "write them anew: cargo run -p sample-books -- ../data/books");
 }
 
-/// The worked table's books typed byte by byte: n, k, 0, r, masks at, rows at, length; then the masks; then
+/// The good books typed byte by byte: n, k, 0, r, masks at, rows at, length; then the masks; then
 /// for each row type, 0, end, lower, upper.
 #[test]
-fn files_have_the_bytes_of_document_01() {
+fn good_books_have_these_bytes() {
     let files = bundled();
     let m1 = [1, 0, 1, 0, 0, 0, 12, 0, 16, 0, 16, 0, 1, 0, 0, 0];
     let m2 = [
@@ -43,6 +43,12 @@ fn files_have_the_bytes_of_document_01() {
     let m4 = [
         5, 0, 3, 0, 2, 0, 12, 0, 32, 0, 48, 0, //
         7, 0, 0, 0, 7, 0, 0, 0, 7, 0, 0, 0, 7, 0, 0, 0, 7, 0, 0, 0, //
+        1, 0, 5, 0, 2, 0, 255, 255, //
+        2, 0, 5, 0, 1, 0, 255, 255,
+    ];
+    let m4_two_slots_fixed = [
+        5, 0, 3, 0, 2, 0, 12, 0, 32, 0, 48, 0, //
+        1, 0, 0, 0, 1, 0, 0, 0, 7, 0, 0, 0, 7, 0, 0, 0, 7, 0, 0, 0, //
         1, 0, 5, 0, 2, 0, 255, 255, //
         2, 0, 5, 0, 1, 0, 255, 255,
     ];
@@ -72,6 +78,7 @@ fn files_have_the_bytes_of_document_01() {
     assert_eq!(files["M2"], m2);
     assert_eq!(files["M3"], m3);
     assert_eq!(files["M4"], m4);
+    assert_eq!(files["M4_two_slots_fixed"], m4_two_slots_fixed);
     assert_eq!(files["M5"], m5);
     assert_eq!(files["M6"], m6);
     assert_eq!(files["M7"], m7);
@@ -91,5 +98,5 @@ fn files_are_what_their_names_say() {
         assert_eq!(number, expected, "{name}");
         numbers.push(number);
     }
-    assert_eq!(numbers, [0, 0, 0, 0, 0, 0, 0, 0, 1, 2, 3, 4, 5, 6, 7, 8]);
+    assert_eq!(numbers, [0, 0, 0, 0, 0, 0, 0, 0, 0, 1, 2, 3, 4, 5, 6, 7, 8]);
 }

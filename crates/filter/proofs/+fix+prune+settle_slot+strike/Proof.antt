@@ -1,0 +1,513 @@
+-- The proof of the cycle of calls of `fix`, `prune`, `settle_slot` and `strike`. The measure is four times the values that are left, plus 1 for
+-- `fix`, 2 for `settle_slot` and 3 for `prune`. The invariant of each loop is `Filtered` for what was passed: the values that are gone from the
+-- slot, the slots before which all is settled; each turn is `filtered-more`. `strike` is `strike-pruned`. Assumes nothing.
+use mathlib.Core.Path.{sym, _∙_}
+use mathlib.Core.Bool.{Bool, true, false}
+use mathlib.Core.List.{List}
+use Prim.Native.Nat.{_+_, _-_, _*_, _≤_}
+use native.Mathlib.Omega.{arith}
+use borrow.Author.Needs.{needs}
+use borrow.Author.Tests.{eqb-true, eqb-false, not-true, not-false}
+use Rattle.domains.specs.Masks.{total}
+use Rattle.settling_model.specs.Settled.{Settled}
+use Rattle.settling_model.proofs.SettledLaws.{settled-none}
+use Rattle.filter_model.specs.Cuts.{FixCut, BoundCut}
+use Rattle.filter_model.proofs.SpentLaws.{settled-before}
+use Rattle.filter_model.proofs.StateLaws.{world-moved, ready-room}
+use Rattle.filter.specs.Filtered.{Filtered}
+use Rattle.filter.specs.declared.Outcome.the-variants.{Live}
+use Rattle.filter.proofs.FilteredLaws.{filtered-at, filtered-refl, filtered-more, filtered-goal, filtered-kind}
+use Rattle.filter.proofs.LoopLaws.{Gone, gone-none, gone-skip, gone-more, gone-fixed, fix-strikes, total-less}
+use Rattle.filter.proofs.LoopLaws.{free-no, free-yes, free-concerned, settled-next, settled-cut}
+use Rattle.filter.proofs.StrikeLaws.{answer-contradicted, answer-removed, strike-absent, strike-contradicted, strike-dead, strike-pruned}
+use Prim.Native.Nat.{ℕ, _<_}
+use borrow.Fn.Kinds.{In}
+use borrow.Fn.PlainCycle.{Measures, is, falls, and}
+use Rattle.filter.proofs.fix.Reads as fix
+use Rattle.filter.proofs.fix.Kinds as fix-kinds
+use Rattle.filter.proofs.+fix+prune+settle_slot+strike.Lts-fix as fix-lts
+use Rattle.filter.proofs.prune.Reads as prune
+use Rattle.filter.proofs.prune.Kinds as prune-kinds
+use Rattle.filter.proofs.+fix+prune+settle_slot+strike.Lts-prune as prune-lts
+use Rattle.filter.proofs.settle_slot.Reads as settle-slot
+use Rattle.filter.proofs.settle_slot.Kinds as settle-slot-kinds
+use Rattle.filter.proofs.+fix+prune+settle_slot+strike.Lts-settle_slot as settle-slot-lts
+use Rattle.filter.proofs.strike.Reads as strike
+use Rattle.filter.proofs.strike.Kinds as strike-kinds
+use Rattle.filter.proofs.+fix+prune+settle_slot+strike.Lts-strike as strike-lts
+use Rattle.filter.proofs.has_value.Reads as has-value-reads
+use Rattle.filter.proofs.is_free.Reads as is-free-reads
+use Rattle.filter.proofs.strike_one.Reads as strike-one-reads
+use Rattle.filter.proofs.+fix+prune+settle_slot+strike.{statement}
+use Rattle.filter.proofs.+fix+prune+settle_slot+strike.Tie.{close}
+
+-- the values below w but v are gone
+record FixInv (n k slot v : ℕ) (masks₀ cells₀ trail₀ : List ℕ) (h₀ : ℕ) (masks cells trail : List ℕ) (h w : ℕ) : Type 0 where
+  done : Filtered n k (FixCut slot v) (Gone slot v w) masks₀ cells₀ trail₀ h₀ masks cells trail (Live h)
+  within : w ≤ k
+
+-- all before s is settled
+record PruneInv (lower : Bool) (n k v end : ℕ) (masks₀ cells₀ trail₀ : List ℕ) (h₀ : ℕ) (masks cells trail : List ℕ) (h s : ℕ) : Type 0 where
+  done : Filtered n k (BoundCut lower masks₀ v end) (λ M. Settled M v s) masks₀ cells₀ trail₀ h₀ masks cells trail (Live h)
+  within : s ≤ end
+
+abbrev μ-fix : Measures 3 fix-kinds.ps ℕ
+μ-fix κs a = 4 * total (a .0 .now) + 1
+
+abbrev μ-prune : Measures 3 prune-kinds.ps ℕ
+μ-prune κs a = 4 * total (a .0 .now) + 3
+
+abbrev μ-settle-slot : Measures 3 settle-slot-kinds.ps ℕ
+μ-settle-slot κs a = 4 * total (a .0 .now) + 2
+
+abbrev μ-strike : Measures 3 strike-kinds.ps ℕ
+μ-strike κs a = 4 * total (a .0 .now)
+
+abbrev fix-at : ℕ → In 3 fix-kinds.ps
+fix-at t = and 3 fix-kinds.ps (is 3 fix-kinds.ps μ-fix t) fix.Pre
+
+abbrev fix-below : ℕ → In 3 fix-kinds.ps
+fix-below t = and 3 fix-kinds.ps (falls 3 fix-kinds.ps _<_ μ-fix t) fix.Pre
+
+abbrev prune-at : ℕ → In 3 prune-kinds.ps
+prune-at t = and 3 prune-kinds.ps (is 3 prune-kinds.ps μ-prune t) prune.Pre
+
+abbrev prune-below : ℕ → In 3 prune-kinds.ps
+prune-below t = and 3 prune-kinds.ps (falls 3 prune-kinds.ps _<_ μ-prune t) prune.Pre
+
+abbrev settle-slot-at : ℕ → In 3 settle-slot-kinds.ps
+settle-slot-at t =
+    and 3 settle-slot-kinds.ps (is 3 settle-slot-kinds.ps μ-settle-slot t) settle-slot.Pre
+
+abbrev settle-slot-below : ℕ → In 3 settle-slot-kinds.ps
+settle-slot-below t =
+    and 3 settle-slot-kinds.ps (falls 3 settle-slot-kinds.ps _<_ μ-settle-slot t) settle-slot.Pre
+
+abbrev strike-at : ℕ → In 3 strike-kinds.ps
+strike-at t = and 3 strike-kinds.ps (is 3 strike-kinds.ps μ-strike t) strike.Pre
+
+abbrev strike-below : ℕ → In 3 strike-kinds.ps
+strike-below t = and 3 strike-kinds.ps (falls 3 strike-kinds.ps _<_ μ-strike t) strike.Pre
+
+abbrev prune-calls : ℕ → prune-lts.Claims
+prune-calls t = (is-free-reads.Asked, is-free-reads.Learnt, settle-slot-below t, settle-slot.Post)
+
+abbrev settle-slot-calls : ℕ → settle-slot-lts.Claims
+settle-slot-calls t = (fix-below t, fix.Post, strike-below t, strike.Post)
+
+abbrev fix-calls : ℕ → fix-lts.Claims
+fix-calls t = (strike-below t, strike.Post)
+
+abbrev strike-calls : ℕ → strike-lts.Claims
+strike-calls t = (has-value-reads.Asked, has-value-reads.Learnt, strike-one-reads.Asked, strike-one-reads.Learnt, prune-below t, prune.Post)
+
+abbrev fix-Inv-loop : fix-lts.InvT-loop
+fix-Inv-loop masks₀ cells₀ trail₀ n k top slot v h₀ w₀ masks cells trail h w = FixInv n k slot v masks₀ cells₀ trail₀ h₀ masks cells trail h w
+
+abbrev fix-μ-loop : fix-lts.MeasureT-loop
+fix-μ-loop masks₀ cells₀ trail₀ n k top slot v h₀ w₀ masks cells trail h w = k - w
+
+fix-loop-holds : (t : ℕ) → fix-lts.Need-loop-holds (fix-calls t) (fix-at t) fix.Post fix-Inv-loop fix-μ-loop
+fix-loop-holds t c = record { done = filtered-refl _ _ _ _ (gone-none _ _ _); within = omega arith }
+
+fix-add-w : (t : ℕ) → fix-lts.Need-add-w (fix-calls t) (fix-at t) fix.Post fix-Inv-loop fix-μ-loop
+fix-add-w t c = omega arith
+
+fix-loop-less : (t : ℕ) → fix-lts.Need-loop-less (fix-calls t) (fix-at t) fix.Post fix-Inv-loop fix-μ-loop
+fix-loop-less t c = omega arith
+
+fix-loop-again : (t : ℕ) → fix-lts.Need-loop-again (fix-calls t) (fix-at t) fix.Post fix-Inv-loop fix-μ-loop
+fix-loop-again t c =
+    record {
+      done = filtered-goal (c .before .before .loop .inv .done) (λ live gone. gone-skip (c .if1 .taken) gone);
+      within = omega (arith, c .before .loop-test .taken);
+    }
+
+fix-strike-requires : (t : ℕ) → fix-lts.Need-strike-requires (fix-calls t) (fix-at t) fix.Post fix-Inv-loop fix-μ-loop
+fix-strike-requires t c κs =
+    let loop-test = c .before .before .before .before .loop-test in
+    let loop = c .before .before .before .before .before .loop in
+    let pre = c .before .before .before .before .before .before .before .before .before .pre in
+    let done = loop .inv .done in (
+      omega (arith, total-less (done .moved .within), pre .0),
+      record { world = world-moved (pre .1 .world) (done .moved); slot-in = pre .1 .slot-in; value-in = loop-test .taken },
+    )
+
+fix-enum-known-o : (t : ℕ) → fix-lts.Need-enum-known-o (fix-calls t) (fix-at t) fix.Post fix-Inv-loop fix-μ-loop
+fix-enum-known-o t c = search needs
+
+fix-enum-known-o-2 : (t : ℕ) → fix-lts.Need-enum-known-o-2 (fix-calls t) (fix-at t) fix.Post fix-Inv-loop fix-μ-loop
+fix-enum-known-o-2 t c = search needs
+
+fix-returns : (t : ℕ) → fix-lts.Need-returns (fix-calls t) (fix-at t) fix.Post fix-Inv-loop fix-μ-loop
+fix-returns t c =
+    let strike = c .before .before .before .before .before .before .before .before .before .strike in
+    let if1 = c .before .before .before .before .before .before .before .before .before .before .before .before .before .if1 in
+    let loop = c .before .before .before .before .before .before .before .before .before .before .before .before .before .before .before .loop in
+    filtered-more (loop .inv .done) (filtered-at (c .before .o2 .given .1) (strike .ensures)) (λ N cut. fix-strikes (if1 .left) cut) (λ no. absurd no)
+
+fix-add-w-2 : (t : ℕ) → fix-lts.Need-add-w-2 (fix-calls t) (fix-at t) fix.Post fix-Inv-loop fix-μ-loop
+fix-add-w-2 t c =
+    let loop-test = c .before .before .before .before .before .before .before .before .before .before .before .before .before .before .loop-test in
+    let fits = c .before .before .before .before .before .before .before .before .before .before .before .before .before .before .before .before
+    .before .before .before .fits in
+    omega (arith, loop-test .taken, fits .k)
+
+fix-loop-less-2 : (t : ℕ) → fix-lts.Need-loop-less-2 (fix-calls t) (fix-at t) fix.Post fix-Inv-loop fix-μ-loop
+fix-loop-less-2 t c = omega arith
+
+fix-loop-again-2 : (t : ℕ) → fix-lts.Need-loop-again-2 (fix-calls t) (fix-at t) fix.Post fix-Inv-loop fix-μ-loop
+fix-loop-again-2 t c =
+    let strike = c .before .before .before .before .before .before .before .before .before .strike in
+    let if1 = c .before .before .before .before .before .before .before .before .before .before .before .before .before .if1 in
+    let loop-test = c .before .before .before .before .before .before .before .before .before .before .before .before .before .before .loop-test in
+    let loop = c .before .before .before .before .before .before .before .before .before .before .before .before .before .before .before .loop in
+    record {
+      done = filtered-more (loop .inv .done) (filtered-at (c .before .o .given .1) (strike .ensures)) (λ N cut. fix-strikes (if1 .left) cut)
+          (λ live gone cut. gone-more (strike .ensures .moved .within) gone cut);
+      within = omega (arith, loop-test .taken);
+    }
+
+fix-returns-2 : (t : ℕ) → fix-lts.Need-returns-2 (fix-calls t) (fix-at t) fix.Post fix-Inv-loop fix-μ-loop
+fix-returns-2 t c =
+    let pre = c .before .before .before .before .before .pre in
+    let done = c .before .loop .inv .done in
+    filtered-goal done (λ live gone. gone-fixed (world-moved (pre .1 .world) (done .moved)) (pre .1 .slot-in) (c .loop-test .left) gone)
+
+abbrev prune-Inv-loop : prune-lts.InvT-loop
+prune-Inv-loop masks₀ cells₀ trail₀ n k top v end lower h₀ s₀ masks cells trail h s =
+    PruneInv lower n k v end masks₀ cells₀ trail₀ h₀ masks cells trail h s
+
+abbrev prune-μ-loop : prune-lts.MeasureT-loop
+prune-μ-loop masks₀ cells₀ trail₀ n k top v end lower h₀ s₀ masks cells trail h s = end - s
+
+prune-loop-holds : (t : ℕ) → prune-lts.Need-loop-holds (prune-calls t) (prune-at t) prune.Post prune-Inv-loop prune-μ-loop
+prune-loop-holds t c = record { done = filtered-refl _ _ _ _ (settled-none _ _); within = omega arith }
+
+prune-is-free-requires : (t : ℕ) → prune-lts.Need-is-free-requires (prune-calls t) (prune-at t) prune.Post prune-Inv-loop prune-μ-loop
+prune-is-free-requires t c κs =
+    let pre = c .before .before .before .before .before .before .pre in
+    let pruning = pre .1 in (
+      omega (arith, c .before .loop-test .taken, c .before .before .loop .inv .done .moved .within .len, pruning .end-in, pruning .world .slots),
+      omega (arith, pruning .value-in, pruning .world .values-fit),
+    )
+
+prune-add-s : (t : ℕ) → prune-lts.Need-add-s (prune-calls t) (prune-at t) prune.Post prune-Inv-loop prune-μ-loop
+prune-add-s t c = omega arith
+
+prune-loop-less : (t : ℕ) → prune-lts.Need-loop-less (prune-calls t) (prune-at t) prune.Post prune-Inv-loop prune-μ-loop
+prune-loop-less t c = omega arith
+
+prune-loop-again : (t : ℕ) → prune-lts.Need-loop-again (prune-calls t) (prune-at t) prune.Post prune-Inv-loop prune-μ-loop
+prune-loop-again t c =
+    let loop-test = c .before .before .before .loop-test in
+    let loop = c .before .before .before .before .loop in
+    let fixed = free-no _ _ {r = c .before .is-free .result} (not-true _ (c .if1 .taken)) (c .before .is-free .ensures) in
+    record { done = filtered-goal (loop .inv .done) (λ live settled. settled-next fixed settled); within = omega (arith, loop-test .taken) }
+
+prune-settle-slot-requires : (t : ℕ) → prune-lts.Need-settle-slot-requires (prune-calls t) (prune-at t) prune.Post prune-Inv-loop prune-μ-loop
+prune-settle-slot-requires t c κs =
+    let loop-test = c .before .before .before .before .before .before .loop-test in
+    let loop = c .before .before .before .before .before .before .before .loop in
+    let pre = c .before .before .before .before .before .before .before .before .before .before .before .pre in
+    let done = loop .inv .done in (
+      omega (arith, total-less (done .moved .within), pre .0),
+      record {
+        world = world-moved (pre .1 .world) (done .moved);
+        slot-in = omega (arith, loop-test .taken, pre .1 .end-in);
+        value-in = pre .1 .value-in;
+      },
+    )
+
+prune-enum-known-o : (t : ℕ) → prune-lts.Need-enum-known-o (prune-calls t) (prune-at t) prune.Post prune-Inv-loop prune-μ-loop
+prune-enum-known-o t c = search needs
+
+prune-enum-known-o-2 : (t : ℕ) → prune-lts.Need-enum-known-o-2 (prune-calls t) (prune-at t) prune.Post prune-Inv-loop prune-μ-loop
+prune-enum-known-o-2 t c = search needs
+
+prune-returns : (t : ℕ) → prune-lts.Need-returns (prune-calls t) (prune-at t) prune.Post prune-Inv-loop prune-μ-loop
+prune-returns t c =
+    let settle-slot = c .before .before .before .before .before .before .before .before .before .settle-slot in
+    let if1 = c .before .before .before .before .before .before .before .before .before .before .before .before .before .if1 in
+    let is-free = c .before .before .before .before .before .before .before .before .before .before .before .before .before .before .is-free in
+    let loop-test = c .before .before .before .before .before .before .before .before .before .before .before .before .before .before .before .before
+    .loop-test in
+    let loop = c .before .before .before .before .before .before .before .before .before .before .before .before .before .before .before .before
+    .before .loop in
+    let args = c .before .before .before .before .before .before .before .before .before .before .before .before .before .before .before .before
+    .before .before .before .before .before .args in
+    let done = loop .inv .done in
+    let free = free-yes _ _ {r = is-free .result} (not-false _ (if1 .left)) (is-free .ensures) in
+    let asks = free-concerned (args .lower) (done .moved .within) (loop .s) (args .v) (free .0) (free .1) in
+    filtered-more done (filtered-at (c .before .o2 .given .1) (settle-slot .ensures)) (λ N cut. cut .each (loop .s) (loop-test .taken) asks)
+    (λ no. absurd no)
+
+prune-add-s-2 : (t : ℕ) → prune-lts.Need-add-s-2 (prune-calls t) (prune-at t) prune.Post prune-Inv-loop prune-μ-loop
+prune-add-s-2 t c =
+    let loop-test = c .before .before .before .before .before .before .before .before .before .before .before .before .before .before .before .before
+    .loop-test in
+    let fits = c .before .before .before .before .before .before .before .before .before .before .before .before .before .before .before .before
+    .before .before .before .before .before .fits in
+    omega (arith, loop-test .taken, fits .end)
+
+prune-loop-less-2 : (t : ℕ) → prune-lts.Need-loop-less-2 (prune-calls t) (prune-at t) prune.Post prune-Inv-loop prune-μ-loop
+prune-loop-less-2 t c = omega arith
+
+prune-loop-again-2 : (t : ℕ) → prune-lts.Need-loop-again-2 (prune-calls t) (prune-at t) prune.Post prune-Inv-loop prune-μ-loop
+prune-loop-again-2 t c =
+    let settle-slot = c .before .before .before .before .before .before .before .before .before .settle-slot in
+    let if1 = c .before .before .before .before .before .before .before .before .before .before .before .before .before .if1 in
+    let is-free = c .before .before .before .before .before .before .before .before .before .before .before .before .before .before .is-free in
+    let loop-test = c .before .before .before .before .before .before .before .before .before .before .before .before .before .before .before .before
+    .loop-test in
+    let loop = c .before .before .before .before .before .before .before .before .before .before .before .before .before .before .before .before
+    .before .loop in
+    let args = c .before .before .before .before .before .before .before .before .before .before .before .before .before .before .before .before
+    .before .before .before .before .before .args in
+    let done = loop .inv .done in
+    let free = free-yes _ _ {r = is-free .result} (not-false _ (if1 .left)) (is-free .ensures) in
+    let asks = free-concerned (args .lower) (done .moved .within) (loop .s) (args .v) (free .0) (free .1) in
+    record {
+      done = filtered-more done (filtered-at (c .before .o .given .1) (settle-slot .ensures)) (λ N cut. cut .each (loop .s) (loop-test .taken) asks)
+          (λ live. settled-cut (args .lower) (args .v) (loop .s) (settle-slot .ensures .moved .within));
+      within = omega (arith, loop-test .taken);
+    }
+
+prune-returns-2 : (t : ℕ) → prune-lts.Need-returns-2 (prune-calls t) (prune-at t) prune.Post prune-Inv-loop prune-μ-loop
+prune-returns-2 t c = filtered-goal (c .before .loop .inv .done) (λ live settled. settled-before (c .loop-test .left) settled)
+
+settle-slot-fix-requires : (t : ℕ) → settle-slot-lts.Need-fix-requires (settle-slot-calls t) (settle-slot-at t) settle-slot.Post
+settle-slot-fix-requires t c κs =
+    let pre = c .before .before .before .before .before .before .before .pre in
+    (omega (arith, pre .0), pre .1)
+
+settle-slot-returns : (t : ℕ) → settle-slot-lts.Need-returns (settle-slot-calls t) (settle-slot-at t) settle-slot.Post
+settle-slot-returns t c =
+    let fix = c .before .before .before .before .before .before .fix in
+    let if1 = c .before .before .before .before .before .before .before .before .before .before .if1 in
+    let args = c .before .before .before .before .before .before .before .before .before .before .before .before .before .before .args in
+    filtered-kind true (args .lower) (args .slot) (args .v) (if1 .taken) (fix .ensures)
+
+settle-slot-strike-requires : (t : ℕ) → settle-slot-lts.Need-strike-requires (settle-slot-calls t) (settle-slot-at t) settle-slot.Post
+settle-slot-strike-requires t c κs =
+    let pre = c .before .before .before .before .before .before .before .pre in
+    (omega (arith, pre .0), pre .1)
+
+settle-slot-returns-2 : (t : ℕ) → settle-slot-lts.Need-returns-2 (settle-slot-calls t) (settle-slot-at t) settle-slot.Post
+settle-slot-returns-2 t c =
+    let strike = c .before .before .before .before .before .before .strike in
+    let if1 = c .before .before .before .before .before .before .before .before .before .before .if1 in
+    let args = c .before .before .before .before .before .before .before .before .before .before .before .before .before .before .args in
+    filtered-kind false (args .lower) (args .slot) (args .v) (if1 .left) (strike .ensures)
+
+strike-has-value-requires : (t : ℕ) → strike-lts.Need-has-value-requires (strike-calls t) (strike-at t) strike.Post
+strike-has-value-requires t c κs = search needs
+
+strike-returns : (t : ℕ) → strike-lts.Need-returns (strike-calls t) (strike-at t) strike.Post
+strike-returns t c = strike-absent _ _ _ _ _ _ (eqb-false _ _ (sym (c .before .has-value .ensures) ∙ not-true _ (c .if1 .taken)))
+
+strike-strike-one-requires : (t : ℕ) → strike-lts.Need-strike-one-requires (strike-calls t) (strike-at t) strike.Post
+strike-strike-one-requires t c κs =
+    let if1 = c .before .before .before .if1 in
+    let has-value = c .before .before .before .before .has-value in
+    let pre = c .before .before .before .before .before .before .before .before .before .pre in
+    (pre .1, eqb-true _ _ (sym (has-value .ensures) ∙ not-false _ (if1 .left)))
+
+strike-enum-known-o : (t : ℕ) → strike-lts.Need-enum-known-o (strike-calls t) (strike-at t) strike.Post
+strike-enum-known-o t c = search needs
+
+strike-enum-told : (t : ℕ) → strike-lts.Need-enum-told (strike-calls t) (strike-at t) strike.Post
+strike-enum-told t c = search needs
+
+strike-returns-2 : (t : ℕ) → strike-lts.Need-returns-2 (strike-calls t) (strike-at t) strike.Post
+strike-returns-2 t c =
+    let strike-one = c .before .before .before .before .before .before .before .before .strike-one in
+    let args = c .before .before .before .before .before .before .before .before .before .before .before .before .before .before .before .before
+    .before .before .args in
+    strike-contradicted (answer-contradicted _ _ _ _ _ (args .top) _ _ _ _ _ (strike-one .ensures) (c .enum-told .given .1))
+
+strike-add-prune : (t : ℕ) → strike-lts.Need-add-prune (strike-calls t) (strike-at t) strike.Post
+strike-add-prune t c =
+    let if1 = c .before .before .before .before .before .before .before .before .before .before .before .before .before .before .before .before
+    .if1 in
+    let has-value = c .before .before .before .before .before .before .before .before .before .before .before .before .before .before .before .before
+    .before .has-value in
+    let fits = c .before .before .before .before .before .before .before .before .before .before .before .before .before .before .before .before
+    .before .before .before .before .before .before .fits in
+    let pre = c .before .before .before .before .before .before .before .before .before .before .before .before .before .before .before .before
+    .before .before .before .before .before .before .pre in
+    omega (arith, ready-room (pre .1) (eqb-true _ _ (sym (has-value .ensures) ∙ not-false _ (if1 .left))), fits)
+
+strike-prune-requires : (t : ℕ) → strike-lts.Need-prune-requires (strike-calls t) (strike-at t) strike.Post
+strike-prune-requires t c κs =
+    let o = c .before .before .before .before .o in
+    let strike-one = c .before .before .before .before .before .before .before .before .before .before .before .before .strike-one in
+    let args = c .before .before .before .before .before .before .before .before .before .before .before .before .before .before .before .before
+    .before .before .before .before .before .before .args in
+    let pre = c .before .before .before .before .before .before .before .before .before .before .before .before .before .before .before .before
+    .before .before .before .before .before .before .pre in
+    let made = answer-removed _ _ _ _ _ (args .top) _ _ _ _ _ (strike-one .ensures) (o .given .1) in (
+      omega (arith, made .moved .height, pre .0),
+      record { world = world-moved (pre .1 .world) (made .moved); end-in = made .low-in; value-in = pre .1 .value-in },
+    )
+
+strike-enum-known-p : (t : ℕ) → strike-lts.Need-enum-known-p (strike-calls t) (strike-at t) strike.Post
+strike-enum-known-p t c = search needs
+
+strike-prune-requires-2 : (t : ℕ) → strike-lts.Need-prune-requires-2 (strike-calls t) (strike-at t) strike.Post
+strike-prune-requires-2 t c κs =
+    let p = c .before .before .before .before .p in
+    let prune = c .before .before .before .before .before .before .before .before .before .before .before .before .prune in
+    let o = c .before .before .before .before .before .before .before .before .before .before .before .before .before .before .before .before .before
+    .o in
+    let strike-one = c .before .before .before .before .before .before .before .before .before .before .before .before .before .before .before .before
+    .before .before .before .before .before .before .before .before .before .strike-one in
+    let args = c .before .before .before .before .before .before .before .before .before .before .before .before .before .before .before .before
+    .before .before .before .before .before .before .before .before .before .before .before .before .before .before .before .before .before .before
+    .before .args in
+    let pre = c .before .before .before .before .before .before .before .before .before .before .before .before .before .before .before .before
+    .before .before .before .before .before .before .before .before .before .before .before .before .before .before .before .before .before .before
+    .before .pre in
+    let made = answer-removed _ _ _ _ _ (args .top) _ _ _ _ _ (strike-one .ensures) (o .given .1) in
+    let low = filtered-at (p .given .1) (prune .ensures) in (
+      omega (arith, made .moved .height, total-less (low .moved .within), pre .0),
+      record { world = world-moved (world-moved (pre .1 .world) (made .moved)) (low .moved); end-in = made .high-in; value-in = made .value-in },
+    )
+
+strike-returns-3 : (t : ℕ) → strike-lts.Need-returns-3 (strike-calls t) (strike-at t) strike.Post
+strike-returns-3 t c =
+    let prune2 = c .before .before .before .before .before .before .prune2 in
+    let p = c .before .before .before .before .before .before .before .before .before .before .before .p in
+    let prune = c .before .before .before .before .before .before .before .before .before .before .before .before .before .before .before .before
+    .before .before .before .prune in
+    let o = c .before .before .before .before .before .before .before .before .before .before .before .before .before .before .before .before .before
+    .before .before .before .before .before .before .before .o in
+    let strike-one = c .before .before .before .before .before .before .before .before .before .before .before .before .before .before .before .before
+    .before .before .before .before .before .before .before .before .before .before .before .before .before .before .before .before .strike-one in
+    let args = c .before .before .before .before .before .before .before .before .before .before .before .before .before .before .before .before
+    .before .before .before .before .before .before .before .before .before .before .before .before .before .before .before .before .before .before
+    .before .before .before .before .before .before .before .before .args in
+    let pre = c .before .before .before .before .before .before .before .before .before .before .before .before .before .before .before .before
+    .before .before .before .before .before .before .before .before .before .before .before .before .before .before .before .before .before .before
+    .before .before .before .before .before .before .before .before .pre in
+    let made = answer-removed _ _ _ _ _ (args .top) _ _ _ _ _ (strike-one .ensures) (o .given .1) in
+    let low = filtered-at (p .given .1) (prune .ensures) in
+    strike-pruned made low (pre .1 .world .alive) (prune2 .ensures)
+
+strike-enum-known-p-2 : (t : ℕ) → strike-lts.Need-enum-known-p-2 (strike-calls t) (strike-at t) strike.Post
+strike-enum-known-p-2 t c = search needs
+
+strike-returns-4 : (t : ℕ) → strike-lts.Need-returns-4 (strike-calls t) (strike-at t) strike.Post
+strike-returns-4 t c =
+    let prune = c .before .before .before .before .before .before .before .before .before .prune in
+    let o = c .before .before .before .before .before .before .before .before .before .before .before .before .before .before .o in
+    let strike-one = c .before .before .before .before .before .before .before .before .before .before .before .before .before .before .before .before
+    .before .before .before .before .before .before .strike-one in
+    let args = c .before .before .before .before .before .before .before .before .before .before .before .before .before .before .before .before
+    .before .before .before .before .before .before .before .before .before .before .before .before .before .before .before .before .args in
+    let made = answer-removed _ _ _ _ _ (args .top) _ _ _ _ _ (strike-one .ensures) (o .given .1) in
+    strike-dead made (filtered-at (c .before .p2 .given .1) (prune .ensures))
+
+fix-same-length : (t : ℕ) → fix-lts.Need-same-length (fix-calls t) (fix-at t) fix.Post fix-Inv-loop fix-μ-loop
+fix-same-length t c = search needs
+
+fix-same-length-2 : (t : ℕ) → fix-lts.Need-same-length-2 (fix-calls t) (fix-at t) fix.Post fix-Inv-loop fix-μ-loop
+fix-same-length-2 t c = search needs
+
+fix-same-length-3 : (t : ℕ) → fix-lts.Need-same-length-3 (fix-calls t) (fix-at t) fix.Post fix-Inv-loop fix-μ-loop
+fix-same-length-3 t c = search needs
+
+fix-same-length-4 : (t : ℕ) → fix-lts.Need-same-length-4 (fix-calls t) (fix-at t) fix.Post fix-Inv-loop fix-μ-loop
+fix-same-length-4 t c = search needs
+
+fix-same-length-5 : (t : ℕ) → fix-lts.Need-same-length-5 (fix-calls t) (fix-at t) fix.Post fix-Inv-loop fix-μ-loop
+fix-same-length-5 t c = search needs
+
+fix-same-length-6 : (t : ℕ) → fix-lts.Need-same-length-6 (fix-calls t) (fix-at t) fix.Post fix-Inv-loop fix-μ-loop
+fix-same-length-6 t c = search needs
+
+prune-same-length : (t : ℕ) → prune-lts.Need-same-length (prune-calls t) (prune-at t) prune.Post prune-Inv-loop prune-μ-loop
+prune-same-length t c = search needs
+
+prune-same-length-2 : (t : ℕ) → prune-lts.Need-same-length-2 (prune-calls t) (prune-at t) prune.Post prune-Inv-loop prune-μ-loop
+prune-same-length-2 t c = search needs
+
+prune-same-length-3 : (t : ℕ) → prune-lts.Need-same-length-3 (prune-calls t) (prune-at t) prune.Post prune-Inv-loop prune-μ-loop
+prune-same-length-3 t c = search needs
+
+prune-same-length-4 : (t : ℕ) → prune-lts.Need-same-length-4 (prune-calls t) (prune-at t) prune.Post prune-Inv-loop prune-μ-loop
+prune-same-length-4 t c = search needs
+
+prune-same-length-5 : (t : ℕ) → prune-lts.Need-same-length-5 (prune-calls t) (prune-at t) prune.Post prune-Inv-loop prune-μ-loop
+prune-same-length-5 t c = search needs
+
+prune-same-length-6 : (t : ℕ) → prune-lts.Need-same-length-6 (prune-calls t) (prune-at t) prune.Post prune-Inv-loop prune-μ-loop
+prune-same-length-6 t c = search needs
+
+settle-slot-same-length : (t : ℕ) → settle-slot-lts.Need-same-length (settle-slot-calls t) (settle-slot-at t) settle-slot.Post
+settle-slot-same-length t c = search needs
+
+settle-slot-same-length-2 : (t : ℕ) → settle-slot-lts.Need-same-length-2 (settle-slot-calls t) (settle-slot-at t) settle-slot.Post
+settle-slot-same-length-2 t c = search needs
+
+settle-slot-same-length-3 : (t : ℕ) → settle-slot-lts.Need-same-length-3 (settle-slot-calls t) (settle-slot-at t) settle-slot.Post
+settle-slot-same-length-3 t c = search needs
+
+settle-slot-same-length-4 : (t : ℕ) → settle-slot-lts.Need-same-length-4 (settle-slot-calls t) (settle-slot-at t) settle-slot.Post
+settle-slot-same-length-4 t c = search needs
+
+settle-slot-same-length-5 : (t : ℕ) → settle-slot-lts.Need-same-length-5 (settle-slot-calls t) (settle-slot-at t) settle-slot.Post
+settle-slot-same-length-5 t c = search needs
+
+settle-slot-same-length-6 : (t : ℕ) → settle-slot-lts.Need-same-length-6 (settle-slot-calls t) (settle-slot-at t) settle-slot.Post
+settle-slot-same-length-6 t c = search needs
+
+strike-same-length : (t : ℕ) → strike-lts.Need-same-length (strike-calls t) (strike-at t) strike.Post
+strike-same-length t c = search needs
+
+strike-same-length-2 : (t : ℕ) → strike-lts.Need-same-length-2 (strike-calls t) (strike-at t) strike.Post
+strike-same-length-2 t c = search needs
+
+strike-same-length-3 : (t : ℕ) → strike-lts.Need-same-length-3 (strike-calls t) (strike-at t) strike.Post
+strike-same-length-3 t c = search needs
+
+strike-same-length-4 : (t : ℕ) → strike-lts.Need-same-length-4 (strike-calls t) (strike-at t) strike.Post
+strike-same-length-4 t c = search needs
+
+strike-same-length-5 : (t : ℕ) → strike-lts.Need-same-length-5 (strike-calls t) (strike-at t) strike.Post
+strike-same-length-5 t c = strike-returns-3 t c .moved .within .len
+
+strike-same-length-6 : (t : ℕ) → strike-lts.Need-same-length-6 (strike-calls t) (strike-at t) strike.Post
+strike-same-length-6 t c = strike-returns-3 t c .moved .cells-size
+
+strike-same-length-7 : (t : ℕ) → strike-lts.Need-same-length-7 (strike-calls t) (strike-at t) strike.Post
+strike-same-length-7 t c = strike-returns-3 t c .moved .trailed .size
+
+strike-same-length-8 : (t : ℕ) → strike-lts.Need-same-length-8 (strike-calls t) (strike-at t) strike.Post
+strike-same-length-8 t c = strike-returns-4 t c .moved .within .len
+
+strike-same-length-9 : (t : ℕ) → strike-lts.Need-same-length-9 (strike-calls t) (strike-at t) strike.Post
+strike-same-length-9 t c = strike-returns-4 t c .moved .cells-size
+
+strike-same-length-10 : (t : ℕ) → strike-lts.Need-same-length-10 (strike-calls t) (strike-at t) strike.Post
+strike-same-length-10 t c = strike-returns-4 t c .moved .trailed .size
+
+pub +fix+prune+settle-slot+strike-spec : {M : Type 1} → statement M
++fix+prune+settle-slot+strike-spec =
+    close μ-fix μ-prune μ-settle-slot μ-strike
+    (λ t. fix-lts.spec (fix-calls t) (fix-at t) fix.Post fix-Inv-loop fix-μ-loop (fix-loop-holds t) (fix-add-w t) (fix-loop-less t)
+    (fix-loop-again t) (fix-strike-requires t) (fix-enum-known-o t) (fix-enum-known-o-2 t) (fix-same-length t) (fix-same-length-2 t)
+    (fix-same-length-3 t) (fix-returns t) (fix-add-w-2 t) (fix-loop-less-2 t) (fix-loop-again-2 t) (fix-same-length-4 t) (fix-same-length-5 t)
+    (fix-same-length-6 t) (fix-returns-2 t))
+    (λ t. prune-lts.spec (prune-calls t) (prune-at t) prune.Post prune-Inv-loop prune-μ-loop (prune-loop-holds t) (prune-is-free-requires t)
+    (prune-add-s t) (prune-loop-less t) (prune-loop-again t) (prune-settle-slot-requires t) (prune-enum-known-o t) (prune-enum-known-o-2 t)
+    (prune-same-length t) (prune-same-length-2 t) (prune-same-length-3 t) (prune-returns t) (prune-add-s-2 t) (prune-loop-less-2 t)
+    (prune-loop-again-2 t) (prune-same-length-4 t) (prune-same-length-5 t) (prune-same-length-6 t) (prune-returns-2 t))
+    (λ t. settle-slot-lts.spec (settle-slot-calls t) (settle-slot-at t) settle-slot.Post (settle-slot-fix-requires t) (settle-slot-same-length t)
+    (settle-slot-same-length-2 t) (settle-slot-same-length-3 t) (settle-slot-returns t) (settle-slot-strike-requires t) (settle-slot-same-length-4 t)
+    (settle-slot-same-length-5 t) (settle-slot-same-length-6 t) (settle-slot-returns-2 t))
+    λ t. strike-lts.spec (strike-calls t) (strike-at t) strike.Post (strike-has-value-requires t) (strike-same-length t) (strike-returns t)
+    (strike-strike-one-requires t) (strike-enum-known-o t) (strike-enum-told t) (strike-same-length-2 t) (strike-same-length-3 t)
+    (strike-same-length-4 t) (strike-returns-2 t) (strike-add-prune t) (strike-prune-requires t) (strike-enum-known-p t) (strike-prune-requires-2 t)
+    (strike-same-length-5 t) (strike-same-length-6 t) (strike-same-length-7 t) (strike-returns-3 t) (strike-enum-known-p-2 t) (strike-same-length-8 t)
+    (strike-same-length-9 t) (strike-same-length-10 t) (strike-returns-4 t)

@@ -1,0 +1,5 @@
+pub mod FallLaws
+pub mod FilteredLaws
+pub mod LargestLaws
+pub mod LoopLaws
+pub mod StrikeLaws

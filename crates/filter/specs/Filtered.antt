@@ -1,0 +1,50 @@
+-- What the contracts of `fix`, `strike` and their helpers say of an outcome.
+--   heightOf, Lived, Held   the trail's height after a call; that it is Live; what it says of a stable list N: Live, it lies within the masks M,
+--                           Dead, there is none
+--   Filtered n k Q G ..     what a call that was asked for the cut Q did: the state moved, and the cells still mirror every table that they mirrored;
+--                           Live: progress, G holds of the masks, and every stable list with the cut lies within them; Dead: there is no such list
+--   Removal·Answer          one whole strike, by the answer of `strike_one`
+--   Free m v r              r tells whether m has v and others besides
+-- Assumes nothing.
+use mathlib.Core.Bool.{Bool, true, false}
+use mathlib.Core.List.{List}
+use Prim.Native.Nat.{ℕ}
+use Rattle.domains.specs.Mask.{Has, Fixed}
+use Rattle.domains.specs.Masks.{Subset}
+use Rattle.closing_model.specs.Table.{Table}
+use Rattle.settling_model.specs.Stable.{Stable, tableBounds}
+use Rattle.filter_model.specs.Mirror.{Mirror, Progress}
+use Rattle.filter_model.specs.State.{Moved, Contradicted, Removed}
+use Rattle.filter.specs.declared.Outcome.{Outcome}
+use Rattle.filter.specs.declared.Outcome.the-variants.{Live, Dead}
+use Rattle.filter.specs.declared.Removal.{Removal}
+use Rattle.filter.specs.declared.Removal.the-variants.{Contradiction, Made}
+
+abbrev pub heightOf : Outcome → ℕ
+heightOf (Live h) = h
+heightOf (Dead h) = h
+
+abbrev pub Lived : Outcome → Type 0
+Lived (Live h) = Unit {0}
+Lived (Dead h) = ⊥
+
+abbrev pub Held : List ℕ → List ℕ → Outcome → Type 0
+Held N M (Live h) = Subset N M
+Held N M (Dead h) = ⊥
+
+pub record Filtered (n k : ℕ) (Q G : List ℕ → Type 0) (masks cells trail : List ℕ) (top : ℕ) (masks′ cells′ trail′ : List ℕ)
+    (r : Outcome) : Type 0 where
+  pub moved : Moved masks cells trail top masks′ cells′ trail′ (heightOf r)
+  pub mirror : (T : Table) → Mirror n k T masks cells → Mirror n k T masks′ cells′
+  pub progress : Lived r → (T : Table) → Mirror n k T masks cells → Progress n k T masks masks′
+  pub keeps : (T : Table) → Mirror n k T masks cells → (N : List ℕ) → Stable (tableBounds n k T) N → Subset N masks → Q N → Held N masks′ r
+  pub goal : Lived r → G masks′
+
+abbrev pub Removal·Answer : ℕ → ℕ → List ℕ → List ℕ → List ℕ → ℕ → List ℕ → List ℕ → List ℕ → ℕ → ℕ → Removal → Type 0
+Removal·Answer n k masks cells trail top masks′ cells′ trail′ slot v Contradiction = Contradicted n k masks cells trail masks′ cells′ trail′ slot v
+Removal·Answer n k masks cells trail top masks′ cells′ trail′ slot v (Made a b w) =
+    Removed n k masks cells trail top masks′ cells′ trail′ slot v a b w
+
+abbrev pub Free : ℕ → ℕ → Bool → Type 0
+Free m v true = Has m v × (Fixed m v → ⊥)
+Free m v false = Has m v → Fixed m v

@@ -1,0 +1,265 @@
+// The filter: `fix` and `strike` call each other until everything before each corner that loses its last slack is settled, or a dead end is found.
+// Nothing is refused here. The contracts cite `specs/Filtered.antt` and the definitions of filter_model.
+ghost use mathlib.Core.Path.{_≡_};
+ghost use Prim.Native.Nat.{_+_, _*_, _<_, _≤_};
+ghost use lib.Dec.{eqb};
+ghost use lib.ListN.{length, getD, set};
+ghost use Rattle.domains.specs.Mask.{testBit, clearBit};
+ghost use Rattle.domains.specs.Masks.{HasAt};
+ghost use Rattle.settling_model.specs.Settled.{Settled};
+ghost use Rattle.segments_model.specs.Part.{Lent};
+ghost use Rattle.filter_model.specs.Cuts.{StrikeCut, FixCut, SlotCut, BoundCut};
+ghost use Rattle.filter_model.specs.State.{Ready, Pruning};
+ghost use Rattle.filter_model.specs.Strike.{Dropped};
+ghost use Rattle.filter_model.specs.Trail.{entry};
+ghost use Rattle.filter.specs.Filtered.{Filtered, Removal·Answer, Free};
+
+// The trail's height after a call, and whether a stable list may be left.
+pub enum Outcome {
+    Live(usize),
+    Dead(usize),
+}
+
+// One whole strike: not made, since no stable list allows it; or made, with the end before which the struck value must be settled, the
+// end before which the slot's only value must be, and that value.
+enum Removal {
+    Contradiction,
+    Made(usize, usize, u32),
+}
+
+// Cuts the slot to value v, with all that follows.
+pub fn fix(
+    masks: &mut [u32],
+    cells: &mut [u16],
+    trail: &mut [u16],
+    n: usize,
+    k: u32,
+    top: usize,
+    slot: usize,
+    v: u32,
+) -> Outcome
+    requires { ⌜ Ready (now masks) (now cells) (now trail) n k top slot v ⌝ }
+    ensures { λ r. ⌜ Filtered n k (FixCut slot v) (FixCut slot v)
+        (now (masks .entry)) (now (cells .entry)) (now (trail .entry)) top (now (masks .exit)) (now (cells .exit)) (now (trail .exit)) r ⌝ }
+{
+    let mut h = top;
+    for w in 0..k {
+        if w == v {
+            continue;
+        }
+        let o = strike(masks, cells, trail, n, k, h, slot, w);
+        match o {
+            Outcome::Live(x) => {
+                h = x;
+            }
+            Outcome::Dead(x) => {
+                return Outcome::Dead(x);
+            }
+        }
+    }
+    Outcome::Live(h)
+}
+
+// Takes value v out of the slot, with all that follows.
+pub fn strike(
+    masks: &mut [u32],
+    cells: &mut [u16],
+    trail: &mut [u16],
+    n: usize,
+    k: u32,
+    top: usize,
+    slot: usize,
+    v: u32,
+) -> Outcome
+    requires { ⌜ Ready (now masks) (now cells) (now trail) n k top slot v ⌝ }
+    ensures { λ r. ⌜ Filtered n k (StrikeCut slot v) (StrikeCut slot v)
+        (now (masks .entry)) (now (cells .entry)) (now (trail .entry)) top (now (masks .exit)) (now (cells .exit)) (now (trail .exit)) r ⌝ }
+{
+    if !has_value(masks, slot, v) {
+        return Outcome::Live(top);
+    }
+    let o = strike_one(masks, cells, trail, n, k, top, slot, v);
+    let Removal::Made(a, b, w) = o else {
+        return Outcome::Dead(top);
+    };
+    let p = prune(masks, cells, trail, n, k, top + 1, v, a, true);
+    match p {
+        Outcome::Live(h) => {
+            return prune(masks, cells, trail, n, k, h, w, b, false);
+        }
+        Outcome::Dead(x) => {
+            return Outcome::Dead(x);
+        }
+    }
+}
+
+// Where the lower (`lower`), or the upper, bound of v is met at `end`: settles each slot before it.
+pub fn prune(
+    masks: &mut [u32],
+    cells: &mut [u16],
+    trail: &mut [u16],
+    n: usize,
+    k: u32,
+    top: usize,
+    v: u32,
+    end: usize,
+    lower: bool,
+) -> Outcome
+    requires { ⌜ Pruning (now masks) (now cells) (now trail) n k top v end ⌝ }
+    ensures { λ r. ⌜ Filtered n k (BoundCut lower (now (masks .entry)) v end) (λ M. Settled M v end)
+        (now (masks .entry)) (now (cells .entry)) (now (trail .entry)) top (now (masks .exit)) (now (cells .exit)) (now (trail .exit)) r ⌝ }
+{
+    let mut h = top;
+    for s in 0..end {
+        if !is_free(masks, s, v) {
+            continue;
+        }
+        let o = settle_slot(masks, cells, trail, n, k, h, s, v, lower);
+        match o {
+            Outcome::Live(x) => {
+                h = x;
+            }
+            Outcome::Dead(x) => {
+                return Outcome::Dead(x);
+            }
+        }
+    }
+    Outcome::Live(h)
+}
+
+// Cuts the slot as a met bound of v asks: to v where it is the lower one, and v out of it where it is the upper one.
+fn settle_slot(
+    masks: &mut [u32],
+    cells: &mut [u16],
+    trail: &mut [u16],
+    n: usize,
+    k: u32,
+    top: usize,
+    slot: usize,
+    v: u32,
+    lower: bool,
+) -> Outcome
+    requires { ⌜ Ready (now masks) (now cells) (now trail) n k top slot v ⌝ }
+    ensures { λ r. ⌜ Filtered n k (SlotCut lower slot v) (SlotCut lower slot v)
+        (now (masks .entry)) (now (cells .entry)) (now (trail .entry)) top (now (masks .exit)) (now (cells .exit)) (now (trail .exit)) r ⌝ }
+{
+    if lower {
+        return fix(masks, cells, trail, n, k, top, slot, v);
+    }
+    strike(masks, cells, trail, n, k, top, slot, v)
+}
+
+// The spent corner of a row: the last one without slack, or 0.
+pub fn spent(cells: &[u16], row: u32, n: usize) -> usize
+    requires { ⌜ row * (n + 1) + n < length (now cells) ⌝ }
+    ensures { λ r. ⌜ r ≡ getD (now (cells .entry)) (row * (n + 1)) 0 ⌝ }
+{
+    wide(cells[row as usize * (n + 1)])
+}
+
+// Strikes v, which the slot has, and brings the counts up to date; or finds that no stable list allows it, and changes nothing.
+fn strike_one(
+    masks: &mut [u32],
+    cells: &mut [u16],
+    trail: &mut [u16],
+    n: usize,
+    k: u32,
+    top: usize,
+    slot: usize,
+    v: u32,
+) -> Removal
+    requires { ⌜ Ready (now masks) (now cells) (now trail) n k top slot v × HasAt (now masks) slot v ⌝ }
+    ensures { λ r. ⌜ Removal·Answer n k (now (masks .entry)) (now (cells .entry)) (now (trail .entry)) top
+        (now (masks .exit)) (now (cells .exit)) (now (trail .exit)) slot v r ⌝ }
+{
+    let m = without_value(masks, slot, v);
+    if m == 0 {
+        return Removal::Contradiction;
+    }
+    if slot < spent(cells, v, n) {
+        return Removal::Contradiction;
+    }
+    if !domains::is_single(m) {
+        store(masks, slot, m);
+        push(trail, top, slot, v);
+        let a = fall_row(cells, v, n, slot);
+        return Removal::Made(a, 0, 0);
+    }
+    let w = domains::single_value(m);
+    if slot < spent(cells, k + w, n) {
+        return Removal::Contradiction;
+    }
+    store(masks, slot, m);
+    push(trail, top, slot, v);
+    let a = fall_row(cells, v, n, slot);
+    let b = fall_row(cells, k + w, n, slot);
+    Removal::Made(a, b, w)
+}
+
+// Lowers the slack of a row by one after the slot. The end before which all must be settled, or 0.
+fn fall_row(cells: &mut [u16], row: u32, n: usize, slot: usize) -> usize
+    requires { ⌜ (slot ≤ n) × (row * (n + 1) + n < length (now cells)) × (n < 65536) ⌝ }
+    ensures { λ r. ⌜ Lent (row * (n + 1)) (n + 1) (λ a b. Dropped n slot a b r) (now (cells .entry)) (now (cells .exit)) ⌝ }
+{
+    let hit = segments::fall_in(cells, row as usize * (n + 1), n, slot);
+    match hit {
+        segments::Hit::Quiet => {
+            return 0;
+        }
+        segments::Hit::Clash => {
+            return 0;
+        }
+        segments::Hit::Reached(t) => {
+            return t;
+        }
+    }
+}
+
+// Whether the slot has value v.
+fn has_value(masks: &[u32], slot: usize, v: u32) -> bool
+    requires { ⌜ (slot < length (now masks)) × (v < 32) ⌝ }
+    ensures { λ r. ⌜ r ≡ eqb (testBit (getD (now (masks .entry)) slot 0) v) 1 ⌝ }
+{
+    domains::has(masks[slot], v)
+}
+
+// Whether the slot has v and others besides.
+fn is_free(masks: &[u32], slot: usize, v: u32) -> bool
+    requires { ⌜ (slot < length (now masks)) × (v < 32) ⌝ }
+    ensures { λ r. ⌜ Free (getD (now (masks .entry)) slot 0) v r ⌝ }
+{
+    let m = masks[slot];
+    if !domains::has(m, v) {
+        return false;
+    }
+    !domains::is_single(m)
+}
+
+// What the slot has without v.
+fn without_value(masks: &[u32], slot: usize, v: u32) -> u32
+    requires { ⌜ (slot < length (now masks)) × (v < 32) ⌝ }
+    ensures { λ r. ⌜ r ≡ clearBit (getD (now (masks .entry)) slot 0) v ⌝ }
+{
+    domains::without(masks[slot], v)
+}
+
+fn store(masks: &mut [u32], slot: usize, m: u32)
+    requires { ⌜ slot < length (now masks) ⌝ }
+    ensures { λ _. ⌜ now (masks .exit) ≡ set (now (masks .entry)) slot m ⌝ }
+{
+    masks[slot] = m;
+}
+
+// Writes the struck value on the trail.
+fn push(trail: &mut [u16], top: usize, slot: usize, v: u32)
+    requires { ⌜ (top < length (now trail)) × (slot < 2048) × (v < 32) ⌝ }
+    ensures { λ _. ⌜ now (trail .exit) ≡ set (now (trail .entry)) top (entry slot v) ⌝ }
+{
+    trail[top] = (slot * 32 + v as usize) as u16;
+}
+
+fn wide(x: u16) -> usize
+    ensures { λ r. ⌜ r ≡ x ⌝ }
+{
+    x as usize
+}

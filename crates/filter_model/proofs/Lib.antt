@@ -1,0 +1,10 @@
+pub mod ContradictionLaws
+pub mod MirrorLaws
+pub mod RemovalLaws
+pub mod RisesLaws
+pub mod RowLaws
+pub mod SpentLaws
+pub mod StateLaws
+pub mod StoreLaws
+pub mod StruckLaws
+pub mod TrailLaws

@@ -1,0 +1,71 @@
+-- Bounds that are met: every stable list meets their cuts (`bound-cut`); so it does before the spent corner of a row, the last one without slack
+-- (`spent-cut`), and a row is quiet where all before that is settled (`spent-quiet`). No contract cites this file. Assumes nothing.
+use mathlib.Core.Path.{_≡_, sym}
+use mathlib.Core.Bool.{Bool, true, false}
+use mathlib.Core.Logic.{⊎-elim, dite}
+use mathlib.Core.List.{List}
+use Prim.Native.Nat.{ℕ, _+_, _*_, _≤_, _<_}
+use native.Mathlib.Nat.{le-antisymm}
+use native.Mathlib.Decide.{decLt}
+use native.Mathlib.Omega.{arith}
+use lib.ListN.{getD}
+use Rattle.domains.specs.Masks.{Subset}
+use Rattle.closing_model.specs.Table.{Table}
+use Rattle.settling_model.specs.Settled.{Settled}
+use Rattle.settling_model.specs.Stable.{Stable, tableBounds}
+use Rattle.settling_model.proofs.StableLaws.{low-cut, high-cut}
+use Rattle.settling_model.proofs.TableBoundsLaws.{stable-keeps}
+use Rattle.segments_model.specs.Cells.{Spent}
+use Rattle.segments_model.specs.Lines.{cornerOf, gain, loss}
+use Rattle.filter_model.specs.Cuts.{BoundCut}
+use Rattle.filter_model.specs.Mirror.{boundLine, Corner, slackAt, row, Mirror, Quiet, Progress}
+use Rattle.filter_model.proofs.MirrorLaws.{mirror-kept}
+use Rattle.filter_model.proofs.RowLaws.{row-first}
+
+-- ---- BoundCut
+-- the bound of v is met at t
+pub bound-cut : (n k : ℕ) (T : Table) (M N : List ℕ) (kind : Bool) (v t : ℕ) → v < k → t ≤ n → Stable (tableBounds n k T) N → Subset N M
+    → (0 < t → gain kind (boundLine kind n T v) M v t ≡ loss kind (boundLine kind n T v) M v t) → BoundCut kind M v t N
+bound-cut n k T M N true v t v<k t≤n stable N⊆M met =
+    record {
+      each = λ s s<t has.
+          record { fixed = low-cut (stable .alive) (stable-keeps n k T N stable v t v<k (omega arith) t≤n) N⊆M (met (omega arith)) s s<t has };
+    }
+bound-cut n k T M N false v t v<k t≤n stable N⊆M met =
+    record {
+      each = λ s s<t free.
+          record {
+            lacks = high-cut (stable .alive) (stable-keeps n k T N stable v t v<k (omega arith) t≤n) N⊆M (sym (met (omega arith))) s s<t free;
+          };
+    }
+
+-- ---- Settled
+pub settled-before : {M : List ℕ} {v t u : ℕ} → t ≤ u → Settled M v u → Settled M v t
+settled-before t≤u settled = record { each = λ s s<t. settled .each s (omega arith) }
+
+-- ---- the spent corner z of a row
+module _ {n k : ℕ} {T : Table} {M cells : List ℕ} (mirror : Mirror n k T M cells) (kind : Bool) (v : ℕ) (v<k : v < k) (z : ℕ)
+    (z-is : z ≡ getD cells (row kind k v * (n + 1)) 0) where
+  pub spent-row : Spent n (cornerOf kind n (boundLine kind n T v)) (slackAt kind n T M v) z
+  spent-row = rw (z-is, ← row-first n (row kind k v) cells) (mirror .rows kind v v<k .held .spent)
+
+  spent-corner : 0 < z → Corner kind n T v z
+  spent-corner 0<z = record { from = 0<z; upto = spent-row .inside; turns = spent-row .corner 0<z }
+
+  -- a later list, settled before it: no corner without slack is left unsettled
+  pub spent-quiet : {M′ : List ℕ} → Progress n k T M M′ → Settled M′ v z → Quiet kind n T M′ v
+  spent-quiet progress settled =
+      record {
+        each = λ t corner none.
+            ⊎-elim
+            (λ was.
+            settled-before
+            (dite (decLt z t) (λ z<t. absurd (omega (arith, was, spent-row .last t z<t (corner .upto) (corner .turns)))) (λ t≤z. omega arith))
+            settled)
+            (λ here. here) (progress .spent kind v t v<k corner none);
+      }
+
+  pub spent-cut : (N : List ℕ) → Stable (tableBounds n k T) N → Subset N M → BoundCut kind M v z N
+  spent-cut N stable N⊆M =
+      bound-cut n k T M N kind v z v<k (spent-row .inside) stable N⊆M
+      (λ 0<z. le-antisymm (omega (arith, spent-row .none 0<z)) (mirror-kept mirror kind v z v<k (spent-corner 0<z)))

@@ -1,0 +1,125 @@
+-- `Struck` of `specs/Strike.antt`, from what the falls of the slack did to the rows: where other values are left at the slot only the struck
+-- value's lower row falls (`struck-plain`), where one is left its upper row falls too (`struck-single`). No contract cites this file.
+-- Assumes nothing.
+use mathlib.Core.Path.{_≡_, refl, _∙_}
+use mathlib.Core.Bool.{Bool, true, false}
+use mathlib.Core.Logic.{inl, inr, dite}
+use mathlib.Core.List.{List}
+use Prim.Native.Nat.{ℕ, _+_, _*_, _≤_, _<_, zero-le}
+use native.Mathlib.Decide.{ℕ-discrete}
+use native.Mathlib.Omega.{arith}
+use lib.ListN.{length, getD, set}
+use Rattle.domains.specs.Mask.{Fixed, clearBit}
+use Rattle.domains.specs.Masks.{HasAt}
+use Rattle.domains.proofs.MaskLaws.{testBit-clearBit-same, testBit-clearBit-other}
+use Rattle.domains.proofs.CountsLaws.{only-fixed, only-free}
+use Rattle.closing_model.specs.Table.{Table}
+use Rattle.segments_model.specs.Lines.{cornerOf, gain, loss, Change}
+use Rattle.segments_model.specs.Part.{Lent}
+use Rattle.filter_model.specs.Mirror.{boundLine, slackAt, row, cellsOf, Mirror}
+use Rattle.filter_model.specs.Strike.{Reach, Dropped, Due, Struck}
+use Rattle.filter_model.proofs.RowLaws.{Row, row-weaken, row-stays, row-falls, reach-met, lent-row}
+use Rattle.filter_model.proofs.SpentLaws.{bound-cut}
+use Rattle.filter_model.proofs.StoreLaws.{was-free, fixed-unique, strike-within}
+
+-- the strike of v at the slot
+module _ {n k : ℕ} {T : Table} {M cells : List ℕ} (mirror : Mirror n k T M cells) (slot v : ℕ) (inside : slot < length M) (v<k : v < k)
+    (has : HasAt M slot v) where
+  abbrev left : ℕ
+  left = clearBit (getD M slot 0) v
+
+  abbrev after : List ℕ
+  after = set M slot left
+
+  -- ---- from the rows to the whole; where a reach is above 0 its bound is met
+  module _ (cells′ : List ℕ) (a w b : ℕ) (w<k : w < k) (a≤n : a ≤ n) (b≤n : b ≤ n)
+      (rows : (kind : Bool) (x : ℕ) → x < k → Row kind n k T M after cells′ x (Due v a w b x))
+      (low : 0 < a → gain true (boundLine true n T v) after v a ≡ loss true (boundLine true n T v) after v a)
+      (high : 0 < b → gain false (boundLine false n T w) after w b ≡ loss false (boundLine false n T w) after w b) where
+    struck-rows : Struck n k T M after cells′ slot v a w b
+    struck-rows =
+        record {
+          mirror = record { rows = λ kind x x<k. rows kind x x<k .segments };
+          spent = λ kind x t x<k. rows kind x x<k .spent t;
+          cuts = λ N stable N⊆M cut.
+              let within = strike-within M slot v inside N⊆M cut in
+              record {
+                within = within;
+                low = bound-cut n k T after N true v a v<k a≤n stable within low;
+                high = bound-cut n k T after N false w b w<k b≤n stable within high;
+              };
+        }
+
+  -- ---- the lower row of v
+  module _ (cells₁ : List ℕ) (a : ℕ) (fits : (k + k) * (n + 1) ≤ length cells) (some : left ≡ 0 → ⊥)
+      (lent₁ : Lent (v * (n + 1)) (n + 1) (λ l l′. Dropped n slot l l′ a) cells cells₁) (free₁ : getD (cellsOf true n k v cells) 0 0 ≤ slot) where
+    low-change : Change true (getD M slot 0) left v 1
+    low-change = omega (arith, has, testBit-clearBit-same (getD M slot 0) v)
+
+    low-other : (x : ℕ) → (x ≡ v → ⊥) → Change true (getD M slot 0) left x 0
+    low-other x x≢v = omega (arith, testBit-clearBit-other (getD M slot 0) v x x≢v)
+
+    high-other : (x : ℕ) → (Fixed left x → ⊥) → Change false (getD M slot 0) left x 0
+    high-other x free = omega (arith, only-free left x free, only-free (getD M slot 0) x (was-free (getD M slot 0) v x has some))
+
+    low-reach : Reach n (cornerOf true n (boundLine true n T v)) (slackAt true n T M v) slot (cellsOf true n k v cells₁) a
+    low-reach = lent₁ .does .reach (cornerOf true n (boundLine true n T v)) (slackAt true n T M v) (mirror .rows true v v<k .held) free₁
+
+    same₁ : (kind : Bool) (x : ℕ) → x < k → (row kind k x ≡ v → ⊥) → cellsOf kind n k x cells₁ ≡ cellsOf kind n k x cells
+    same₁ true x x<k other = lent-row n (k + k) v x lent₁ fits (omega arith) other
+    same₁ false x x<k other = lent-row n (k + k) v (k + x) lent₁ fits (omega arith) other
+
+    -- no value is alone
+    module _ (many : (x : ℕ) → Fixed left x → ⊥) where
+      plain-rows : (kind : Bool) (x : ℕ) → x < k → Row kind n k T M after cells₁ x (Due v a 0 0 x)
+      plain-rows true x x<k =
+          dite (ℕ-discrete x v)
+          (λ same. rw same (row-weaken (λ t t≤a. inl (refl, t≤a)) (row-falls mirror cells₁ slot left inside true v v<k a low-change low-reach)))
+          (λ other. row-stays mirror cells₁ slot left inside true x x<k (Due v a 0 0 x) (low-other x other) (same₁ true x x<k other))
+      plain-rows false x x<k =
+          row-stays mirror cells₁ slot left inside false x x<k (Due v a 0 0 x) (high-other x (many x)) (same₁ false x x<k (λ e. absurd (omega arith)))
+
+      pub struck-plain : Struck n k T M after cells₁ slot v a 0 0
+      struck-plain =
+          struck-rows cells₁ a 0 0 (omega arith) (lent₁ .does .inside) zero-le plain-rows
+          (reach-met mirror cells₁ slot left inside true v v<k a low-change low-reach) (λ 0<0. absurd (omega arith))
+
+    -- ---- the upper row of w, the only value that is left
+    module _ (cells₂ : List ℕ) (w b : ℕ) (w<k : w < k) (single : Fixed left w)
+        (lent₂ : Lent ((k + w) * (n + 1)) (n + 1) (λ l l′. Dropped n slot l l′ b) cells₁ cells₂)
+        (free₂ : getD (cellsOf false n k w cells) 0 0 ≤ slot) where
+      same₂ : (kind : Bool) (x : ℕ) → x < k → (row kind k x ≡ k + w → ⊥) → cellsOf kind n k x cells₂ ≡ cellsOf kind n k x cells₁
+      same₂ true x x<k other = lent-row n (k + k) (k + w) x lent₂ (omega (arith, lent₁ .size)) (omega arith) other
+      same₂ false x x<k other = lent-row n (k + k) (k + w) (k + x) lent₂ (omega (arith, lent₁ .size)) (omega arith) other
+
+      high-change : Change false (getD M slot 0) left w 1
+      high-change = omega (arith, only-fixed left w single, only-free (getD M slot 0) w (was-free (getD M slot 0) v w has some))
+
+      low-reach₂ : Reach n (cornerOf true n (boundLine true n T v)) (slackAt true n T M v) slot (cellsOf true n k v cells₂) a
+      low-reach₂ = rw (same₂ true v v<k (λ e. absurd (omega arith))) low-reach
+
+      high-reach : Reach n (cornerOf false n (boundLine false n T w)) (slackAt false n T M w) slot (cellsOf false n k w cells₂) b
+      high-reach =
+          let same = same₁ false w w<k (λ e. absurd (omega arith)) in
+          lent₂ .does .reach (cornerOf false n (boundLine false n T w)) (slackAt false n T M w) (rw same (mirror .rows false w w<k .held))
+          (rw same free₂)
+
+      single-rows : (kind : Bool) (x : ℕ) → x < k → Row kind n k T M after cells₂ x (Due v a w b x)
+      single-rows true x x<k =
+          dite (ℕ-discrete x v)
+          (λ same. rw same (row-weaken (λ t t≤a. inl (refl, t≤a)) (row-falls mirror cells₂ slot left inside true v v<k a low-change low-reach₂)))
+          (λ other.
+          row-stays mirror cells₂ slot left inside true x x<k (Due v a w b x) (low-other x other)
+          (same₂ true x x<k (λ e. absurd (omega arith)) ∙ same₁ true x x<k other))
+      single-rows false x x<k =
+          dite (ℕ-discrete x w)
+          (λ same. rw same (row-weaken (λ t t≤b. inr (refl, t≤b)) (row-falls mirror cells₂ slot left inside false w w<k b high-change high-reach)))
+          (λ other.
+          row-stays mirror cells₂ slot left inside false x x<k (Due v a w b x) (high-other x (λ fixed. other (fixed-unique left x w fixed single)))
+          (same₂ false x x<k (λ e. other (omega arith)) ∙ same₁ false x x<k (λ e. absurd (omega arith))))
+
+      pub struck-single : Struck n k T M after cells₂ slot v a w b
+      struck-single =
+          struck-rows cells₂ a w b w<k (lent₁ .does .inside) (lent₂ .does .inside) single-rows
+          (reach-met mirror cells₂ slot left inside true v v<k a low-change low-reach₂)
+          (reach-met mirror cells₂ slot left inside false w w<k b high-change high-reach)

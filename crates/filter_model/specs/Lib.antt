@@ -1,0 +1,6 @@
+pub mod Cuts
+pub mod Mirror
+pub mod Rises
+pub mod State
+pub mod Strike
+pub mod Trail

@@ -1,0 +1,45 @@
+-- One whole strike of a value v at a slot, from the masks M to M′: v leaves the slot, and the slacks that this lowers are brought up to date.
+--   Reach n C f slot cells′ r   the slack f of a row with the corners C fell by one after the slot; before r all must be settled (0: nothing)
+--   Dropped n slot cells ..     the same for whichever corners and slack the cells hold, where the slot is not before the spent corner
+--   Due v a w b x t             all before t is to be settled for x: the reach of v is a, and that of w is b
+--   Cuts M′ v a w b N           N lies within M′ and meets the cuts of these two reaches
+--   Struck n k T M M′ ..        for a table T: the cells mirror it, newly spent corners are due, and every stable list without v there is kept
+-- w is the only value that is left at the slot, and b its reach, or 0 where others are left.
+-- Assumes nothing.
+use mathlib.Core.Path.{_≡_}
+use mathlib.Core.Bool.{Bool, true, false}
+use mathlib.Core.Logic.{_⊎_}
+use mathlib.Core.List.{List}
+use Prim.Native.Nat.{ℕ, _≤_, _<_}
+use lib.ListN.{length, getD}
+use Rattle.domains.specs.Masks.{Subset}
+use Rattle.closing_model.specs.Table.{Table}
+use Rattle.settling_model.specs.Stable.{Stable, tableBounds}
+use Rattle.segments_model.specs.Cells.{Cells}
+use Rattle.segments_model.specs.Fall.{fallen, MoreThan, Meets}
+use Rattle.filter_model.specs.Cuts.{StrikeCut, BoundCut}
+use Rattle.filter_model.specs.Mirror.{Corner, slackAt, Mirror}
+
+pub record Reach (n : ℕ) (C : ℕ → Bool) (f : ℕ → ℕ) (slot : ℕ) (cells′ : List ℕ) (r : ℕ) : Type 0 where
+  pub cells : Cells n C (fallen f slot) cells′
+  pub more : MoreThan n C f slot 0
+  pub past : (u : ℕ) → slot < u → r < u → u ≤ n → C u ≡ true → 1 < f u
+  pub meets : 0 < r → Meets n C f slot 1 r
+
+pub record Dropped (n slot : ℕ) (cells cells′ : List ℕ) (r : ℕ) : Type 0 where
+  pub size : length cells′ ≡ length cells
+  pub inside : r ≤ n
+  pub reach : (C : ℕ → Bool) (f : ℕ → ℕ) → Cells n C f cells → getD cells 0 0 ≤ slot → Reach n C f slot cells′ r
+
+abbrev pub Due : ℕ → ℕ → ℕ → ℕ → ℕ → ℕ → Type 0
+Due v a w b x t = ((x ≡ v) × (t ≤ a)) ⊎ ((x ≡ w) × (t ≤ b))
+
+pub record Cuts (M′ : List ℕ) (v a w b : ℕ) (N : List ℕ) : Type 0 where
+  pub within : Subset N M′
+  pub low : BoundCut true M′ v a N
+  pub high : BoundCut false M′ w b N
+
+pub record Struck (n k : ℕ) (T : Table) (M M′ cells′ : List ℕ) (slot v a w b : ℕ) : Type 0 where
+  pub mirror : Mirror n k T M′ cells′
+  pub spent : (kind : Bool) (x t : ℕ) → x < k → Corner kind n T x t → slackAt kind n T M′ x t ≡ 0 → (slackAt kind n T M x t ≡ 0) ⊎ Due v a w b x t
+  pub cuts : (N : List ℕ) → Stable (tableBounds n k T) N → Subset N M → StrikeCut slot v N → Cuts M′ v a w b N

@@ -1,0 +1,39 @@
+-- Building the cells from a table's rises.
+--   Building             what it needs: sizes
+--   RowsAnswer, RowsBuilt   the rows of one kind, up to value v: they hold the segments of every line with the rises; or one is broken
+--   BuildMeaning, AllBuilt  the rows of both kinds: the cells mirror each table with the rises; or one of its corners is broken
+-- Assumes nothing.
+use mathlib.Core.Path.{_≡_}
+use mathlib.Core.Bool.{Bool, true, false, not}
+use mathlib.Core.List.{List}
+use Prim.Native.Nat.{ℕ, _+_, _*_, _≤_, _<_}
+use lib.ListN.{length}
+use Rattle.closing_model.specs.Table.{Table}
+use Rattle.segments_model.specs.Lines.{Rising, BrokenAt, Segments}
+use Rattle.filter_model.specs.Mirror.{boundLine, cellsOf, Mirror}
+use Rattle.filter_model.specs.Rises.{TableRises}
+
+pub record Building (cells rises masks : List ℕ) (n k : ℕ) : Type 0 where
+  pub slots-fit : n < 65536
+  pub values-fit : k ≤ 32
+  pub rises-in : n < length rises
+  pub slots : n ≤ length masks
+  pub rows : (k + k) * (n + 1) ≤ length cells
+
+abbrev pub RowsAnswer : Bool → ℕ → ℕ → List ℕ → List ℕ → List ℕ → ℕ → Bool → Type 0
+RowsAnswer kind n k rises masks cells′ v true =
+    (x : ℕ) → x < v → (u : ℕ → ℕ) → Rising n x rises u → Segments kind n u masks x (cellsOf kind n k x cells′)
+RowsAnswer kind n k rises masks cells′ v false = (x : ℕ) × (x < k) × ((u : ℕ → ℕ) → Rising n x rises u → (t : ℕ) × BrokenAt kind n u masks x t)
+
+pub record RowsBuilt (kind : Bool) (n k : ℕ) (rises masks cells cells′ : List ℕ) (v : ℕ) (r : Bool) : Type 0 where
+  pub size : length cells′ ≡ length cells
+  pub others : (x : ℕ) → x < k → cellsOf (not kind) n k x cells′ ≡ cellsOf (not kind) n k x cells
+  pub answer : RowsAnswer kind n k rises masks cells′ v r
+
+abbrev pub BuildMeaning : ℕ → ℕ → Table → List ℕ → List ℕ → Bool → Type 0
+BuildMeaning n k T masks cells′ true = Mirror n k T masks cells′
+BuildMeaning n k T masks cells′ false = (kind : Bool) × (v : ℕ) × (t : ℕ) × (v < k) × BrokenAt kind n (boundLine kind n T v) masks v t
+
+pub record AllBuilt (n k : ℕ) (lowers uppers masks cells cells′ : List ℕ) (r : Bool) : Type 0 where
+  pub size : length cells′ ≡ length cells
+  pub meaning : (T : Table) → TableRises n k T lowers uppers → BuildMeaning n k T masks cells′ r

@@ -1,0 +1,133 @@
+// Opening: builds the cells from a table's rises and the masks, and settles everything before each row's spent corner, so that the masks are
+// stable; or finds that no stable list is left. Nothing is refused here. The contracts cite `specs/Built.antt`, `specs/Opened.antt` and the
+// definitions of filter and filter_model.
+ghost use mathlib.Core.Path.{_≡_};
+ghost use mathlib.Core.Bool.{true, false};
+ghost use Prim.Native.Nat.{_<_};
+ghost use lib.ListN.{length};
+ghost use Rattle.filter_model.specs.Mirror.{row};
+ghost use Rattle.filter.specs.Filtered.{Filtered};
+ghost use Rattle.opening.specs.Built.{Building, RowsBuilt, AllBuilt};
+ghost use Rattle.opening.specs.Opened.{Anything, Opening, QuietValue, QuietBelow, Rooms, OpenAnswer};
+
+// Opens: builds all cells from the rises of the lower and of the upper bounds, and settles all rows.
+pub fn open(
+    masks: &mut [u32],
+    cells: &mut [u16],
+    trail: &mut [u16],
+    lowers: &[u32],
+    uppers: &[u32],
+    n: usize,
+    k: u32,
+) -> filter::Outcome
+    requires { ⌜ Rooms (now masks) (now cells) (now trail) (now lowers) (now uppers) n k ⌝ }
+    ensures { λ r. ⌜ OpenAnswer n k (now (lowers .entry)) (now (uppers .entry)) (now (masks .entry)) (now (cells .entry)) (now (trail .entry))
+        (now (masks .exit)) (now (cells .exit)) (now (trail .exit)) r ⌝ }
+{
+    if !build_all(cells, lowers, uppers, masks, n, k) {
+        return filter::Outcome::Dead(0);
+    }
+    prune_all(masks, cells, trail, n, k, 0)
+}
+
+// Builds the rows of both kinds. False where a corner is broken.
+pub fn build_all(
+    cells: &mut [u16],
+    lowers: &[u32],
+    uppers: &[u32],
+    masks: &[u32],
+    n: usize,
+    k: u32,
+) -> bool
+    requires { ⌜ Building (now cells) (now lowers) (now masks) n k × (n < length (now uppers)) ⌝ }
+    ensures { λ r. ⌜ AllBuilt n k (now (lowers .entry)) (now (uppers .entry)) (now (masks .entry)) (now (cells .entry)) (now (cells .exit)) r ⌝ }
+{
+    if !build_rows(cells, lowers, masks, n, k, true, 0) {
+        return false;
+    }
+    build_rows(cells, uppers, masks, n, k, false, k)
+}
+
+// Builds the rows of one kind, the first of which is `first`. False where a corner is broken.
+fn build_rows(
+    cells: &mut [u16],
+    rises: &[u32],
+    masks: &[u32],
+    n: usize,
+    k: u32,
+    lower: bool,
+    first: u32,
+) -> bool
+    requires { ⌜ Building (now cells) (now rises) (now masks) n k × (first ≡ row lower k 0) ⌝ }
+    ensures { λ r. ⌜ RowsBuilt lower n k (now (rises .entry)) (now (masks .entry)) (now (cells .entry)) (now (cells .exit)) k r ⌝ }
+{
+    for v in 0..k {
+        if !segments::build_in(
+            cells,
+            (first + v) as usize * (n + 1),
+            rises,
+            masks,
+            n,
+            v,
+            lower,
+        ) {
+            return false;
+        }
+    }
+    true
+}
+
+// Settles all rows.
+fn prune_all(
+    masks: &mut [u32],
+    cells: &mut [u16],
+    trail: &mut [u16],
+    n: usize,
+    k: u32,
+    top: usize,
+) -> filter::Outcome
+    requires { ⌜ Opening (now masks) (now cells) (now trail) n k top ⌝ }
+    ensures { λ r. ⌜ Filtered n k Anything (QuietBelow n k (now (masks .entry)) (now (cells .entry)) k)
+        (now (masks .entry)) (now (cells .entry)) (now (trail .entry)) top (now (masks .exit)) (now (cells .exit)) (now (trail .exit)) r ⌝ }
+{
+    let mut h = top;
+    for v in 0..k {
+        let o = prune_value(masks, cells, trail, n, k, h, v);
+        match o {
+            filter::Outcome::Live(x) => {
+                h = x;
+            }
+            filter::Outcome::Dead(x) => {
+                return filter::Outcome::Dead(x);
+            }
+        }
+    }
+    filter::Outcome::Live(h)
+}
+
+// Settles everything before the spent corners of value v's rows.
+fn prune_value(
+    masks: &mut [u32],
+    cells: &mut [u16],
+    trail: &mut [u16],
+    n: usize,
+    k: u32,
+    top: usize,
+    v: u32,
+) -> filter::Outcome
+    requires { ⌜ Opening (now masks) (now cells) (now trail) n k top × (v < k) ⌝ }
+    ensures { λ r. ⌜ Filtered n k Anything (QuietValue n k (now (masks .entry)) (now (cells .entry)) v)
+        (now (masks .entry)) (now (cells .entry)) (now (trail .entry)) top (now (masks .exit)) (now (cells .exit)) (now (trail .exit)) r ⌝ }
+{
+    let a = filter::spent(cells, v, n);
+    let p = filter::prune(masks, cells, trail, n, k, top, v, a, true);
+    match p {
+        filter::Outcome::Live(h) => {
+            let b = filter::spent(cells, k + v, n);
+            return filter::prune(masks, cells, trail, n, k, h, v, b, false);
+        }
+        filter::Outcome::Dead(x) => {
+            return filter::Outcome::Dead(x);
+        }
+    }
+}

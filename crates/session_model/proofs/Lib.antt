@@ -1,0 +1,19 @@
+pub mod AbsentLaws
+pub mod BackLaws
+pub mod BookRunLaws
+pub mod CallsLaws
+pub mod CutLaws
+pub mod DeadOpeningLaws
+pub mod DecisionsLaws
+pub mod DemandLaws
+pub mod InForceLaws
+pub mod KeptLaws
+pub mod LiveLaws
+pub mod OrderLaws
+pub mod OutputLaws
+pub mod RefusalLaws
+pub mod RunLaws
+pub mod StandingLaws
+pub mod StepLaws
+pub mod WallsLaws
+mod Worked

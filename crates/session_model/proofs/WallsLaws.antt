@@ -1,0 +1,39 @@
+-- The laws of `specs/Walls.antt`: the cells that hold a bound's segments hold as many as the formula counts (`segments-wallCount`), and the
+-- corners of a line are those of document 01's words (`corner-upper`, `upper-corner`, `corner-lower`, `lower-corner`). No contract cites this
+-- file. Assumes nothing.
+use mathlib.Core.Path.{_≡_}
+use mathlib.Core.Bool.{Bool, true, false}
+use mathlib.Core.List.{List}
+use Prim.Native.Nat.{ℕ, _+_, _-_, _≤_, _<_}
+use native.Mathlib.Omega.{arith}
+use Rattle.closing_model.specs.Table.{Table}
+use Rattle.closing_model.specs.Corners.{UpperCorner, LowerCorner}
+use Rattle.segments_model.specs.Cells.{standingIn}
+use Rattle.segments_model.specs.Lines.{cornerOf, slackOf, Segments}
+use Rattle.segments_model.proofs.LinesLaws.{corner-of-turn, turn-of-corner}
+use Rattle.segments_model.proofs.StandingLaws.{standing-words}
+use Rattle.session_model.specs.Walls.{boundLine, wallCount}
+
+-- ---- corners
+module _ (n : ℕ) (u : ℕ → ℕ) (t : ℕ) where
+  pub corner-upper : 0 < t → t ≤ n → cornerOf false n u t ≡ true → UpperCorner n u t
+  corner-upper from upto corner =
+      let turn = turn-of-corner t n (u t) (u (t - 1)) (u (t + 1)) (u t + 1) corner in
+      record { from = from; upto = upto; flat = turn .0; rises = λ t<n. turn .1 (omega arith) }
+
+  pub upper-corner : UpperCorner n u t → cornerOf false n u t ≡ true
+  upper-corner corner = corner-of-turn t n (u t) (u (t - 1)) (u (t + 1)) (u t + 1) (corner .flat) (λ inner. corner .rises (omega (arith, corner .upto)))
+
+  pub corner-lower : 0 < t → t ≤ n → cornerOf true n u t ≡ true → LowerCorner n u t
+  corner-lower from upto corner =
+      let turn = turn-of-corner t n (u t) (u (t - 1) + 1) (u (t + 1)) (u t) corner in
+      record { from = from; upto = upto; rises = turn .0; flat = λ t<n. turn .1 (omega arith) }
+
+  pub lower-corner : LowerCorner n u t → cornerOf true n u t ≡ true
+  lower-corner corner = corner-of-turn t n (u t) (u (t - 1) + 1) (u (t + 1)) (u t) (corner .rises) (λ inner. corner .flat (omega (arith, corner .upto)))
+
+-- ---- wallCount
+pub segments-wallCount : (kind : Bool) (n : ℕ) (T : Table) (M : List ℕ) (v : ℕ) (cells : List ℕ) → Segments kind n (boundLine kind n T v) M v cells
+    → standingIn cells n ≡ wallCount kind n T M v
+segments-wallCount kind n T M v cells segments =
+    standing-words n (cornerOf kind n (boundLine kind n T v)) (slackOf kind (boundLine kind n T v) M v) cells (segments .held)

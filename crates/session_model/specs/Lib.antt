@@ -1,0 +1,10 @@
+pub mod BookRun
+pub mod Calls
+pub mod Decisions
+pub mod Demand
+pub mod InForce
+pub mod Machine
+pub mod Refusal
+pub mod Standing
+pub mod State
+pub mod Walls

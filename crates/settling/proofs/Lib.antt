@@ -1,0 +1,4 @@
+pub mod OpenLaws
+pub mod RisesLaws
+pub mod SettleLaws
+mod WorldLaws

@@ -1,0 +1,85 @@
+// The settling of a book's masks, typed: the largest stable list within them, or dead.
+// `settle` refuses by the book's numbers 1 to 8, then by 9 where the lent output is too short; every book and every length gets an answer.
+// Its limits may be any for which the working arrays have room.
+// The contracts cite `specs/Settle.antt`; those of the inner functions `specs/Ready.antt` and `specs/State.antt` too.
+mod load; // load.rt: the masks of a book, and masks with no value
+mod open; // open.rt: from a book to the filter's state
+mod table; // table.rt: the rises of a book's closed table
+
+use answer::Answer;
+use book::Limits;
+use book::number;
+use book::read;
+use book::slots;
+use filter::Outcome;
+use load::clear_masks;
+pub use open::open_book;
+ghost use mathlib.Core.Path.{_≡_};
+ghost use lib.ListN.{length};
+ghost use Rattle.answer.specs.Answer.{wordOf};
+ghost use Rattle.settling_model.specs.Book.{settledBook};
+ghost use Rattle.settling.specs.Settle.{Settles, settleFault, settleGood, settleOf};
+ghost use Rattle.settling.specs.Ready.{Capacity, Ready, Wrote, settledBy};
+
+// Settles the masks of book into the front of masks.
+pub fn settle(book: &[u8], limits: Limits, masks: &mut [u32]) -> Answer
+    requires { ⌜ Capacity limits ⌝ }
+    ensures { λ r. ⌜ Settles (λ xs. xs) (settleOf limits (now (book .entry)) (length (now (masks .entry)))) (wordOf r)
+        (now (masks .entry)) (now (masks .exit)) ⌝ }
+{
+    let number = fault(book, limits, masks.len());
+    if number != 0 {
+        return Answer::Refused(number);
+    }
+    let n = slots(book);
+    settle_exactly(book, &mut masks[..n])
+}
+
+// The number that refuses book, or an output with room for so many masks; 0 where none does.
+pub fn fault(book: &[u8], limits: Limits, room: usize) -> u8
+    ensures { λ r. ⌜ r ≡ settleFault limits (now (book .entry)) room ⌝ }
+{
+    let refusal = number(read(book, limits));
+    if refusal != 0 {
+        return refusal as u8;
+    }
+    if room < slots(book) {
+        return 9;
+    }
+    0
+}
+
+// Settles the masks of a good book in a slice that has just the room for them.
+pub fn settle_exactly(book: &[u8], masks: &mut [u32]) -> Answer
+    requires { ⌜ Ready (now book) (now masks) ⌝ }
+    ensures { λ r. ⌜ Wrote (settleGood (now (book .entry))) r (now (masks .exit)) ⌝ }
+{
+    if settles(book, masks) {
+        return Answer::Live;
+    }
+    clear_masks(masks);
+    Answer::Dead
+}
+
+// Whether a good book settles; if so, masks holds what its masks settle to. The arrays have room for 256 slots and 32 values.
+fn settles(book: &[u8], masks: &mut [u32]) -> bool
+    requires { ⌜ Ready (now book) (now masks) ⌝ }
+    ensures { λ r. ⌜ settledBook (now (book .entry)) ≡ settledBy r (now (masks .exit)) ⌝ }
+{
+    let mut cells = [0u16; 16448];
+    let mut trail = [0u16; 8192];
+    let mut lower_rises = [0u32; 257];
+    let mut upper_rises = [0u32; 257];
+    let outcome = open_book(
+        book,
+        masks,
+        &mut cells,
+        &mut trail,
+        &mut lower_rises,
+        &mut upper_rises,
+    );
+    match outcome {
+        Outcome::Live(_) => true,
+        Outcome::Dead(_) => false,
+    }
+}

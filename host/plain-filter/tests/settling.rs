@@ -1,0 +1,167 @@
+//! The plain settling is document 01's: on small books its masks are the largest of all the stable lists
+//! within the book's masks, found by listing every list there is; and every plan lies within them.
+
+use plain_filter::{close, settle, Book, Death, Row, Table};
+use random_books::{every_type, masks_around, near_plan, plan, Random};
+
+fn has(mask: u32, v: usize) -> bool {
+    mask >> v & 1 == 1
+}
+
+fn fixed(mask: u32, v: usize) -> bool {
+    mask == 1 << v
+}
+
+/// Document 01's definition, word for word.
+fn stable(table: &Table, masks: &[u32]) -> bool {
+    masks.iter().all(|&mask| mask != 0)
+        && (0..table.lower.len()).all(|v| (1..=masks.len()).all(|t| stable_at(table, v, t, &masks[..t])))
+}
+
+fn stable_at(table: &Table, v: usize, t: usize, before: &[u32]) -> bool {
+    let p = before.iter().filter(|&&mask| has(mask, v)).count() as i64;
+    let b = before.iter().filter(|&&mask| fixed(mask, v)).count() as i64;
+    let (lower, upper) = (table.lower[v][t], table.upper[v][t]);
+    p >= lower
+        && b <= upper
+        && (p != lower || before.iter().all(|&mask| !has(mask, v) || fixed(mask, v)))
+        && (b != upper || before.iter().all(|&mask| fixed(mask, v) || !has(mask, v)))
+}
+
+/// Each mask of `inner` has only types of `outer`'s.
+fn within(inner: &[u32], outer: &[u32]) -> bool {
+    inner.iter().zip(outer).all(|(inner, outer)| inner & !outer == 0)
+}
+
+/// Every way to choose one of each list.
+fn every_choice(lists: &[Vec<u32>]) -> Vec<Vec<u32>> {
+    lists.iter().fold(vec![Vec::new()], |choices, list| {
+        let longer = |choice: &Vec<u32>| {
+            let choice = choice.clone();
+            list.iter().map(move |&next| [&choice[..], &[next]].concat())
+        };
+        choices.iter().flat_map(longer).collect()
+    })
+}
+
+/// The stable list within the book's masks that has every other one within it; `None` if there is no stable
+/// list.
+fn largest(book: &Book) -> Option<Vec<u32>> {
+    let table = close(book).table?;
+    let parts = |&mask: &u32| (1..=mask).filter(|part| part & !mask == 0).collect();
+    let mut lists = every_choice(&book.masks.iter().map(parts).collect::<Vec<_>>());
+    lists.retain(|masks| stable(&table, masks));
+    if lists.is_empty() {
+        return None;
+    }
+    let largest = lists.iter().find(|largest| lists.iter().all(|masks| within(masks, largest)));
+    Some(largest.expect("if there are stable lists, one is the largest").clone())
+}
+
+/// Every plan, each slot's type as a mask: allowed by the masks, and keeping the rows.
+fn plans(book: &Book) -> Vec<Vec<u32>> {
+    let types = |&mask: &u32| (0..32).map(|v| 1 << v).filter(|one| mask & one != 0).collect();
+    let mut plans = every_choice(&book.masks.iter().map(types).collect::<Vec<_>>());
+    plans.retain(|plan| {
+        book.rows.iter().all(|row| {
+            let count = plan[..row.end].iter().filter(|&&slot| fixed(slot, row.board_type)).count();
+            row.lower <= count && row.upper.is_none_or(|upper| count <= upper)
+        })
+    });
+    plans
+}
+
+/// What the books were like.
+#[derive(Debug, Default)]
+struct Met {
+    unchanged: usize,
+    cut: usize,
+    cut_by_both_rules: usize,
+    many_passes: usize,
+    dead_in_closing: usize,
+    too_few: usize,
+    too_many: usize,
+}
+
+/// Compares the plain settling with the definition, and every plan with the settled masks.
+fn compare(book: &Book, met: &mut Met) {
+    let settling = settle(book);
+    assert_eq!(settling.masks.as_ref().ok(), largest(book).as_ref(), "{book:?}");
+    let plans = plans(book);
+    match &settling.masks {
+        Ok(masks) => {
+            for plan in &plans {
+                assert!(within(plan, masks), "{book:?} loses the plan {plan:?}");
+            }
+            met.unchanged += usize::from(*masks == book.masks);
+            met.cut += usize::from(*masks != book.masks);
+            met.cut_by_both_rules += usize::from(settling.fixes > 0 && settling.strikes > 0);
+            met.many_passes += usize::from(settling.passes > 2);
+        }
+        Err(death) => {
+            assert!(plans.is_empty(), "{book:?} is dead and has a plan");
+            match death {
+                Death::Closing => met.dead_in_closing += 1,
+                Death::TooFew => met.too_few += 1,
+                Death::TooMany => met.too_many += 1,
+            }
+        }
+    }
+}
+
+/// Rows near a plan and masks around it; in two of three books some masks or rows are at odds with the plan.
+fn random_book(random: &mut Random, n: usize, k: usize) -> Book {
+    let plan = plan(random, n, k, 2);
+    let (rows, slack) = (random.below(2 * n), random.below(2));
+    let mut book = near_plan(random, &plan, k, rows, slack);
+    let eighths = random.between(2, 7);
+    book.masks = masks_around(random, &plan, k, eighths);
+    match random.below(3) {
+        0 => {
+            let mask = random.between(1, every_type(k) as usize) as u32;
+            book.masks[random.below(n)] = mask;
+        }
+        1 => {
+            let (board_type, end) = (random.below(k), random.between(1, n));
+            let (lower, upper) = random.one_of(&[(1, None), (2, None), (0, Some(0)), (0, Some(1))]);
+            book.rows.push(Row { board_type, end, lower, upper });
+        }
+        _ => {}
+    }
+    book
+}
+
+#[test]
+fn random_books() {
+    let mut random = Random::new(0x2545_f491_4f6c_dd1d);
+    let mut met = Met::default();
+    for turn in 0..9000 {
+        let (n, k) = [(1, 3), (2, 5), (3, 4), (4, 3), (5, 3), (6, 2)][turn % 6];
+        compare(&random_book(&mut random, n, k), &mut met);
+    }
+    println!("{met:?}");
+    let Met { unchanged, cut, cut_by_both_rules, many_passes, .. } = met;
+    assert!([unchanged, cut, cut_by_both_rules].iter().all(|&books| books >= 100), "{met:?}");
+    assert!(many_passes >= 10, "{met:?}");
+    assert!([met.dead_in_closing, met.too_few, met.too_many].iter().all(|&books| books >= 50), "{met:?}");
+}
+
+/// M7: n = 4, k = 4, masks 3 3 3 12, types 0 and 1 upper 1 at end 4: settles unchanged, though no plan
+/// exists.
+#[test]
+fn m7_has_no_plan() {
+    let row = |board_type| Row { board_type, end: 4, lower: 0, upper: Some(1) };
+    let book = Book { n: 4, k: 4, masks: vec![3, 3, 3, 12], rows: vec![row(0), row(1)] };
+    assert_eq!(settle(&book).masks, Ok(vec![3, 3, 3, 12]));
+    assert!(plans(&book).is_empty());
+    compare(&book, &mut Met::default());
+}
+
+/// M4's rows: n = 5, k = 3, type 1 lower 2 and type 2 lower 1 at end 5.
+#[test]
+fn two_of_type_0_are_enough() {
+    let row = |board_type, lower| Row { board_type, end: 5, lower, upper: None };
+    let book = Book { n: 5, k: 3, masks: vec![1, 1, 7, 7, 7], rows: vec![row(1, 2), row(2, 1)] };
+    assert_eq!(settle(&book).masks, Ok(vec![1, 1, 6, 6, 6]));
+    compare(&book, &mut Met::default());
+}
