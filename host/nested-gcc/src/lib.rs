@@ -223,3 +223,8 @@ fn refusal(function: &str, answer: u32) -> Refusal {
         None => panic!("{function} answered {answer}, which is no answer of this library"),
     }
 }
+
+/// The examples of the repository's README are run as documentation tests.
+#[cfg(doctest)]
+#[doc = include_str!("../../../README.md")]
+struct Readme;
