@@ -1,5 +1,6 @@
 -- What the functions of this crate are lent and what they answer.
 --   Fits n k L U       two lists that hold just a table of k values and the prefixes 0 to n, whose numbers fit
+--   SumsMatch          what `column_sums` answers: the sums and the widest gap of a prefix, whose numbers fit
 --   Outcome            what a run of rules did, by its answer: nothing, stores, or the finding that no table with the rules lies within
 --   answered r L U     the model's answer that r and the two lists stand for: a table, or none (document 01: dead)
 -- Assumes nothing.
@@ -7,10 +8,11 @@ use mathlib.Core.Path.{_≡_}
 use mathlib.Core.Bool.{Bool, true, false}
 use mathlib.Core.List.{List}
 use mathlib.Core.Option.{Option, none, some}
-use Prim.Native.Nat.{ℕ, _<_}
+use Prim.Native.Nat.{ℕ, _*_, _<_, _≤_}
 use lib.ListN.{length}
 use Rattle.closing_model.specs.Table.{Table, view, size, Within}
-use Rattle.closing_model.specs.Sweep.{Did}
+use Rattle.closing_model.specs.Sweep.{widest, SumsAre, Did}
+use Rattle.bounds.specs.declared.across.Sums.{Sums}
 use Rattle.bounds.specs.declared.across.Sweep.{Sweep}
 use Rattle.bounds.specs.declared.across.Sweep.the-variants.{Same, Changed, Crossed}
 
@@ -20,6 +22,12 @@ pub record Fits (n k : ℕ) (L U : List ℕ) : Type 0 where
   pub values : k < 65536
   pub lowers : length L ≡ size n k
   pub uppers : length U ≡ size n k
+
+pub record SumsMatch (n k t : ℕ) (T : Table) (s : Sums) : Type 0 where
+  pub sums : SumsAre n k t (s .uppers) (s .lowers) T
+  pub gap : s .gap ≡ widest n k T t
+  pub gap-fits : s .gap < 65536
+  pub lowers-fit : s .lowers ≤ 65535 * k
 
 abbrev pub Outcome : ℕ → (Table → Type 0) → List ℕ → List ℕ → List ℕ → List ℕ → Sweep → Type 0
 Outcome edge P L U L′ U′ Same = Did edge P L U L′ U′ false

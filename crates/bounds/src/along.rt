@@ -1,73 +1,91 @@
-// The rules along one value's line: between a prefix and the next, forward and back. Each function says whether it stored.
-// The contracts cite `Did`, `Fwd`, `Bwd`, `Fwds`, `Bwds` and `Line` of closing_model's specs/Sweep.antt.
+// The rules along one value's line: between a prefix and the next, forward and back.
+// The contracts cite `Did`, `Passed`, `Decides`, `Stairs`, `Fwds`, `Bwds` and `Line` of closing_model's specs/Sweep.antt.
 use super::store::at;
+use super::store::entry;
+use super::store::greater16;
 use super::store::less;
-use super::store::narrow;
+use super::store::less16;
+use super::store::lower_to;
+use super::store::raise;
 ghost use Prim.Native.Nat.{_+_, _<_};
-ghost use lib.ListN.{length};
-ghost use Rattle.closing_model.specs.Sweep.{Did, Fwd, Bwd, Fwds, Bwds, Line};
+ghost use lib.ListN.{length, getD};
+ghost use Rattle.closing_model.specs.Table.{view};
+ghost use Rattle.closing_model.specs.Sweep.{Did, Passed, Decides, Stairs, Fwds, Bwds, Line};
 
-// The rules from a place to the next of its line.
-fn forward(lowers: &mut [u16], uppers: &mut [u16], p: usize) -> bool
-    requires { ⌜ (p + 1 < length (now lowers)) × (p + 1 < length (now uppers)) ⌝ }
-    ensures { λ r. ⌜ Did (p + 2) (Fwd p) (now (lowers .entry)) (now (uppers .entry)) (now (lowers .exit)) (now (uppers .exit)) r ⌝ }
+// Whether each entry of a line is the one before or one more: by the steepest rise and the steepest fall, without a branch in the loop.
+fn stairs(s: &[u16], base: usize, n: usize) -> bool
+    requires { ⌜ base + n < length (now s) ⌝ }
+    ensures { λ r. ⌜ Decides (Stairs (λ p. getD (now (s .entry)) p 0) base n) r ⌝ }
 {
-    let a = at(lowers, p);
-    let b = at(uppers, p);
-    narrow(lowers, uppers, p + 1, a, b + 1)
-}
-
-// The rules from the next place of a line back to a place.
-fn backward(lowers: &mut [u16], uppers: &mut [u16], p: usize) -> bool
-    requires { ⌜ (p + 1 < length (now lowers)) × (p + 1 < length (now uppers)) ⌝ }
-    ensures { λ r. ⌜ Did (p + 2) (Bwd p) (now (lowers .entry)) (now (uppers .entry)) (now (lowers .exit)) (now (uppers .exit)) r ⌝ }
-{
-    let a = at(lowers, p + 1);
-    let b = at(uppers, p + 1);
-    narrow(lowers, uppers, p, less(a, 1), b)
-}
-
-// One value's line, from its start to its end.
-fn forward_pass(lowers: &mut [u16], uppers: &mut [u16], base: usize, n: usize) -> bool
-    requires { ⌜ (base + n < length (now lowers)) × (base + n < length (now uppers)) ⌝ }
-    ensures { λ r. ⌜ Did (base + n + 1) (Fwds base n) (now (lowers .entry)) (now (uppers .entry)) (now (lowers .exit)) (now (uppers .exit)) r ⌝ }
-{
-    let mut changed = false;
+    let mut rise = 0;
+    let mut fall = 0;
     let mut t = 0;
     while t < n {
-        if forward(lowers, uppers, base + t) {
-            changed = true;
-        }
+        let a = entry(s, base + t);
+        let b = entry(s, base + t + 1);
+        rise = greater16(rise, less16(b, a));
+        fall = greater16(fall, less16(a, b));
         t += 1;
     }
-    changed
+    if 1 < rise {
+        return false;
+    }
+    if 0 < fall {
+        return false;
+    }
+    true
 }
 
-// One value's line, from its end to its start.
-fn backward_pass(lowers: &mut [u16], uppers: &mut [u16], base: usize, n: usize) -> bool
+// Whether one value's line keeps its rules.
+fn keeps(lowers: &[u16], uppers: &[u16], base: usize, n: usize) -> bool
     requires { ⌜ (base + n < length (now lowers)) × (base + n < length (now uppers)) ⌝ }
-    ensures { λ r. ⌜ Did (base + n + 1) (Bwds base 0 n) (now (lowers .entry)) (now (uppers .entry)) (now (lowers .exit)) (now (uppers .exit)) r ⌝ }
+    ensures { λ r. ⌜ Decides (Line base n (view (now (lowers .entry)) (now (uppers .entry)))) r ⌝ }
 {
-    let mut changed = false;
+    if stairs(lowers, base, n) {
+        return stairs(uppers, base, n);
+    }
+    false
+}
+
+// One value's line, from its start to its end, with the bounds at t in a and b.
+fn forward_pass(lowers: &mut [u16], uppers: &mut [u16], base: usize, n: usize)
+    requires { ⌜ (base + n < length (now lowers)) × (base + n < length (now uppers)) ⌝ }
+    ensures { λ r. ⌜ Passed (base + n + 1) (Fwds base n) (now (lowers .entry)) (now (uppers .entry)) (now (lowers .exit)) (now (uppers .exit)) ⌝ }
+{
+    let mut a = at(lowers, base);
+    let mut b = at(uppers, base);
+    let mut t = 0;
+    while t < n {
+        a = raise(lowers, base + t + 1, a);
+        b = lower_to(uppers, base + t + 1, b + 1);
+        t += 1;
+    }
+}
+
+// One value's line, from its end to its start, with the bounds at t in a and b.
+fn backward_pass(lowers: &mut [u16], uppers: &mut [u16], base: usize, n: usize)
+    requires { ⌜ (base + n < length (now lowers)) × (base + n < length (now uppers)) ⌝ }
+    ensures { λ r. ⌜ Passed (base + n + 1) (Bwds base 0 n) (now (lowers .entry)) (now (uppers .entry)) (now (lowers .exit)) (now (uppers .exit)) ⌝ }
+{
+    let mut a = at(lowers, base + n);
+    let mut b = at(uppers, base + n);
     let mut t = n;
     while 0 < t {
         t -= 1;
-        if backward(lowers, uppers, base + t) {
-            changed = true;
-        }
+        a = raise(lowers, base + t, less(a, 1));
+        b = lower_to(uppers, base + t, b);
     }
-    changed
 }
 
-// One value's line, both ways.
+// One value's line, both ways, and whether it changed. Where the line keeps its rules no pass is made; where it does not, one stores.
 pub fn line(lowers: &mut [u16], uppers: &mut [u16], base: usize, n: usize) -> bool
     requires { ⌜ (base + n < length (now lowers)) × (base + n < length (now uppers)) ⌝ }
     ensures { λ r. ⌜ Did (base + n + 1) (Line base n) (now (lowers .entry)) (now (uppers .entry)) (now (lowers .exit)) (now (uppers .exit)) r ⌝ }
 {
-    let x = forward_pass(lowers, uppers, base, n);
-    let y = backward_pass(lowers, uppers, base, n);
-    if x {
-        return true;
+    if keeps(lowers, uppers, base, n) {
+        return false;
     }
-    y
+    forward_pass(lowers, uppers, base, n);
+    backward_pass(lowers, uppers, base, n);
+    true
 }

@@ -1,7 +1,7 @@
 // Single entries of a table: read, compared, raised, lowered. The contracts cite `raised`, `lowered` and `Stored` of closing_model's
 // specs/Sweep.antt.
 ghost use mathlib.Core.Path.{_≡_};
-ghost use Prim.Native.Nat.{_-_, _<_};
+ghost use Prim.Native.Nat.{_-_, _<_, min, max};
 ghost use lib.Dec.{ltb};
 ghost use lib.ListN.{length, getD};
 ghost use Rattle.closing_model.specs.Sweep.{raised, lowered, Stored};
@@ -12,6 +12,14 @@ pub fn at(s: &[u16], p: usize) -> usize
     ensures { λ r. ⌜ (r ≡ getD (now (s .entry)) p 0) × (r < 65536) ⌝ }
 {
     s[p] as usize
+}
+
+// The entry at p, in its own 16 bits: a loop on these takes several entries at once.
+pub fn entry(s: &[u16], p: usize) -> u16
+    requires { ⌜ p < length (now s) ⌝ }
+    ensures { λ r. ⌜ r ≡ getD (now (s .entry)) p 0 ⌝ }
+{
+    s[p]
 }
 
 // Whether the lower at p is above the upper there.
@@ -32,39 +40,68 @@ pub fn less(x: usize, y: usize) -> usize
     x - y
 }
 
-// Raises the entry at p to x, and says whether it was below.
-pub fn raise(s: &mut [u16], p: usize, x: usize) -> bool
+// The greater of two numbers.
+pub fn greater(x: usize, y: usize) -> usize
+    ensures { λ r. ⌜ r ≡ max x y ⌝ }
+{
+    if x < y { y } else { x }
+}
+
+// The lesser of two numbers.
+pub fn lesser(x: usize, y: usize) -> usize
+    ensures { λ r. ⌜ r ≡ min x y ⌝ }
+{
+    if y < x { y } else { x }
+}
+
+// The same of 16 bits: x less y, 0 where y is more.
+pub fn less16(x: u16, y: u16) -> u16
+    ensures { λ r. ⌜ r ≡ x - y ⌝ }
+{
+    if x < y {
+        return 0;
+    }
+    x - y
+}
+
+// The greater of two numbers of 16 bits.
+pub fn greater16(x: u16, y: u16) -> u16
+    ensures { λ r. ⌜ r ≡ max x y ⌝ }
+{
+    if x < y { y } else { x }
+}
+
+// Raises the entry at p to x where it is below, and returns the entry. It stores without a branch.
+pub fn raise(s: &mut [u16], p: usize, x: usize) -> usize
     requires { ⌜ (p < length (now s)) × (x < 65536) ⌝ }
-    ensures { λ r. ⌜ (now (s .exit) ≡ raised (now (s .entry)) p x) × (r ≡ ltb (getD (now (s .entry)) p 0) x) ⌝ }
+    ensures { λ r. ⌜ (now (s .exit) ≡ raised (now (s .entry)) p x) × (r ≡ getD (now (s .exit)) p 0) × (r < 65536) ⌝ }
 {
-    if at(s, p) < x {
-        s[p] = x as u16;
-        return true;
-    }
-    false
+    let y = greater(at(s, p), x);
+    s[p] = y as u16;
+    y
 }
 
-// Lowers the entry at p to x, and says whether it was above.
-pub fn lower_to(s: &mut [u16], p: usize, x: usize) -> bool
+// Lowers the entry at p to x where it is above, and returns the entry. It stores without a branch.
+pub fn lower_to(s: &mut [u16], p: usize, x: usize) -> usize
     requires { ⌜ p < length (now s) ⌝ }
-    ensures { λ r. ⌜ (now (s .exit) ≡ lowered (now (s .entry)) p x) × (r ≡ ltb x (getD (now (s .entry)) p 0)) ⌝ }
+    ensures { λ r. ⌜ (now (s .exit) ≡ lowered (now (s .entry)) p x) × (r ≡ getD (now (s .exit)) p 0) × (r < 65536) ⌝ }
 {
-    if x < at(s, p) {
-        s[p] = x as u16;
-        return true;
-    }
-    false
+    let y = lesser(at(s, p), x);
+    s[p] = y as u16;
+    y
 }
 
-// Raises the lower at p to x and lowers the upper there to y, and says whether it stored.
+// Raises the lower at p to x and lowers the upper there to y, and says whether either changed.
 pub fn narrow(lowers: &mut [u16], uppers: &mut [u16], p: usize, x: usize, y: usize) -> bool
     requires { ⌜ (p < length (now lowers)) × (p < length (now uppers)) × (x < 65536) ⌝ }
     ensures { λ r. ⌜ Stored (now (lowers .entry)) (now (uppers .entry)) (now (lowers .exit)) (now (uppers .exit)) p x y r ⌝ }
 {
-    let a = raise(lowers, p, x);
-    let b = lower_to(uppers, p, y);
-    if a {
+    let a = at(lowers, p);
+    let b = at(uppers, p);
+    raise(lowers, p, x);
+    lower_to(uppers, p, y);
+    if a < x {
         return true;
     }
-    b
+    y < b
 }

@@ -1,6 +1,7 @@
 -- The rules across the values at one prefix, with the sums of the table as it stood at the start: a store makes a sum stale, and a stale
 -- sum still demands no more than the rule (`lower-demand`, `upper-demand`). No contract cites this file. `AcrossInv` is the invariant of the
 -- loop over the values; `across-start` its start, `across-more` its turn, `across-none` its way out at a sum above t, `across-done` its end.
+-- `across-kept`: by the sums and the widest gap alone, nothing is to do.
 -- Assumes nothing.
 use mathlib.Core.Path.{_≡_, refl, _∙_}
 use mathlib.Core.Bool.{Bool, false, _||_}
@@ -13,9 +14,9 @@ use lib.ListN.{length, getD}
 use borrow.Author.Count.{below-more}
 use borrow.Author.Tests.{ltb-false}
 use Rattle.closing_model.specs.Table.{Table, view, size, place, Within}
-use Rattle.closing_model.specs.Sweep.{columnSum, Crosswise, Across, Columns, raised, lowered, Stored, Ran, Did}
+use Rattle.closing_model.specs.Sweep.{columnSum, widest, SumsAre, Crosswise, Across, Columns, raised, lowered, Stored, Ran, Did}
 use Rattle.closing_model.proofs.PlaceLaws.{place-below}
-use Rattle.closing_model.proofs.SumLaws.{column-sum-others, column-sum-part}
+use Rattle.closing_model.proofs.SumLaws.{column-sum-others, column-sum-part, widest-part}
 use Rattle.closing_model.proofs.StoreLaws.{stored-other}
 use Rattle.closing_model.proofs.TableLaws.{within-trans, within-fewer}
 use Rattle.closing_model.proofs.SweptLaws.{raise-swept, lower-swept, swept-trans}
@@ -43,10 +44,6 @@ module _ (n k t v : ℕ) (v<k : v < k) (t≤n : t ≤ n) (A : Table) where
       )
 
 -- ---- the loop over the values at prefix t
-pub record SumsAre (n k t su sl : ℕ) (T : Table) : Type 0 where
-  pub uppers : columnSum n k (T .upper) t ≡ su
-  pub lowers : columnSum n k (T .lower) t ≡ sl
-
 -- the first v values have been gone through, at these sums
 pub record Upto (n k t su sl v : ℕ) (T : Table) : Type 0 where
   pub sums : SumsAre n k t su sl T
@@ -102,10 +99,8 @@ upto-more : {n k t su sl v : ℕ} {T : Table} → Upto n k t su sl v T → (Sums
 upto-more {n} {k} {t} {T} upto rule = record { sums = upto .sums; rules = below-more (λ w. Crosswise n k t w T) _ (upto .rules) (rule (upto .sums)) }
 
 -- its start
-pub across-start : {n k t su sl : ℕ} (L U : List ℕ) → columnSum n k (λ p. getD U p 0) t ≡ su → columnSum n k (λ p. getD L p 0) t ≡ sl
-    → AcrossInv n k t su sl L U L U false 0 t
-across-start {n} {k} {t} {su} {sl} L U upper-sum lower-sum =
-    let sums : SumsAre n k t su sl (view L U) = record { uppers = upper-sum; lowers = lower-sum } in
+pub across-start : {n k t su sl : ℕ} (L U : List ℕ) → SumsAre n k t su sl (view L U) → AcrossInv n k t su sl L U L U false 0 t
+across-start L U sums =
     record { upto = omega arith; at = omega arith; sums = sums; ran = ran-none _ _ _ L U (record { sums = sums; rules = λ w w<0. absurd (omega arith) }); frame = λ q t≤q. refl }
 
 -- a turn, at value v with lower a and upper b; ol is what the other lowers sum up to
@@ -141,6 +136,15 @@ module _ {n k t su sl v p : ℕ} {L₀ U₀ L U : List ℕ} {r : Bool} {a b ol :
 pub across-done : {n k t su sl : ℕ} {L₀ U₀ L U : List ℕ} {r : Bool} {v p : ℕ} → k ≤ v → AcrossInv n k t su sl L₀ U₀ L U r v p
     → Did (size n k) (Across n k t) L₀ U₀ L U r
 across-done k≤v inv = record { swept = inv .ran .swept; sizeL = inv .ran .sizeL; sizeU = inv .ran .sizeU; rules = λ none w w<k. inv .ran .rules none .rules w (omega arith) }
+
+-- where no gap is wider than what is left of either sum, the rules ask nothing
+pub across-kept : (n k t su sl : ℕ) (L U : List ℕ) → SumsAre n k t su sl (view L U) → widest n k (view L U) t + t ≤ su → widest n k (view L U) t + sl ≤ t
+    → Did (size n k) (Across n k t) L U L U false
+across-kept n k t su sl L U sums below-uppers above-lowers =
+    let upper-sum : columnSum n k (λ p. getD U p 0) t ≡ su = sums .uppers in
+    let lower-sum : columnSum n k (λ p. getD L p 0) t ≡ sl = sums .lowers in
+    ran-none _ _ _ L U
+    (λ v v<k. record { lower = omega (arith, widest-part n t (view L U) k v v<k); upper = omega (arith, widest-part n t (view L U) k v v<k) })
 
 -- one prefix more, of the loop over the prefixes
 pub columns-turn : (n k t : ℕ) {L U L′ U′ L″ U″ : List ℕ} {r s b : Bool} → t ≤ n → Ran (size n k) (Columns n k (n + 1)) (Columns n k t) L U L′ U′ r

@@ -1,13 +1,13 @@
--- The laws of `Ran` of `specs/Sweep.antt`, and of the flag that says whether a run stored. No contract cites this file. `ran-more`, one run
+-- The laws of `Ran` and `Decides` of `specs/Sweep.antt`, and of the flag that says whether a run stored. No contract cites this file. `ran-more`, one run
 -- after another, is the law of every turn of every loop and of every two calls in a row.
 -- Assumes nothing.
-use mathlib.Core.Path.{_≡_, refl, sym, _∙_}
+use mathlib.Core.Path.{_≡_, refl, sym, subst, _∙_}
 use mathlib.Core.Bool.{Bool, true, false, _||_, true≢false}
 use mathlib.Core.List.{List}
 use Prim.Native.Nat.{ℕ, _≤_}
 use native.Mathlib.Nat.{le-refl, le-trans}
 use Rattle.closing_model.specs.Table.{Table, view}
-use Rattle.closing_model.specs.Sweep.{Swept, Ran}
+use Rattle.closing_model.specs.Sweep.{Decides, Swept, Ran}
 use Rattle.closing_model.proofs.SweptLaws.{swept-refl, swept-trans, swept-weaken}
 
 -- ---- the flag of two runs
@@ -30,6 +30,13 @@ or-when false stored e = e ∙ sym stored
 pub or-else : (r : Bool) {s b : Bool} → s ≡ false → b ≡ r → b ≡ (r || s)
 or-else true stored e = e
 or-else false stored e = e ∙ sym stored
+
+-- ---- Decides
+pub decided-true : (P : Type 0) {r : Bool} → r ≡ true → Decides P r → P
+decided-true P e decided = subst (λ (b : Bool). Decides P b) e decided
+
+pub decided-false : (P : Type 0) {r : Bool} → r ≡ false → Decides P r → P → ⊥
+decided-false P e decided = subst (λ (b : Bool). Decides P b) e decided
 
 -- ---- Ran
 -- a run from its sweeps and what holds where it stored nothing

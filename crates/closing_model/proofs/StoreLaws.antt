@@ -11,7 +11,7 @@ use native.Mathlib.Decide.{ℕ-discrete}
 use native.Mathlib.Omega.{arith}
 use lib.Dec.{ltb}
 use lib.ListN.{length, getD, set, length-set}
-use lib.Seq.{getD-set-same, getD-set-other}
+use lib.Seq.{getD-set-same, getD-set-other, set-getD}
 use borrow.Author.Tests.{ltb-true, ltb-false}
 use Rattle.closing_model.specs.Sweep.{raised, lowered, weigh}
 
@@ -58,6 +58,36 @@ lowered-same l q x inside = rw (stored-same (ltb x (getD l q 0)) l q x inside) (
     go : (b : Bool) → ltb x (getD l q 0) ≡ b → cond b x (getD l q 0) ≡ min x (getD l q 0)
     go true e = omega (arith, ltb-true x (getD l q 0) e)
     go false e = omega (arith, ltb-false x (getD l q 0) e)
+
+-- a store of the greater of x and what stands there, or of the lesser, needs no test
+set-max-raised : (l : List ℕ) (q x : ℕ) → set l q (max (getD l q 0) x) ≡ raised l q x
+set-max-raised l q x = go (ltb (getD l q 0) x) refl
+  where
+    go : (b : Bool) → ltb (getD l q 0) x ≡ b → set l q (max (getD l q 0) x) ≡ cond b (set l q x) l
+    go true e =
+        let greater : max (getD l q 0) x ≡ x = omega (arith, ltb-true (getD l q 0) x e) in
+        rw greater refl
+    go false e =
+        let greater : max (getD l q 0) x ≡ getD l q 0 = omega (arith, ltb-false (getD l q 0) x e) in
+        rw greater (set-getD l q 0)
+
+set-min-lowered : (l : List ℕ) (q x : ℕ) → set l q (min (getD l q 0) x) ≡ lowered l q x
+set-min-lowered l q x = go (ltb x (getD l q 0)) refl
+  where
+    go : (b : Bool) → ltb x (getD l q 0) ≡ b → set l q (min (getD l q 0) x) ≡ cond b (set l q x) l
+    go true e =
+        let lesser : min (getD l q 0) x ≡ x = omega (arith, ltb-true x (getD l q 0) e) in
+        rw lesser refl
+    go false e =
+        let lesser : min (getD l q 0) x ≡ getD l q 0 = omega (arith, ltb-false x (getD l q 0) e) in
+        rw lesser (set-getD l q 0)
+
+-- the same of what the code reads and stores
+pub raise-made : (l : List ℕ) (q x : ℕ) {a y : ℕ} → q < length l → a ≡ getD l q 0 → y ≡ max a x → (set l q y ≡ raised l q x) × (y ≡ getD (set l q y) q 0)
+raise-made l q x {y = y} inside a-is y-is = (rw (y-is, a-is) (set-max-raised l q x), sym (getD-set-same l q y 0 inside))
+
+pub lower-made : (l : List ℕ) (q x : ℕ) {a y : ℕ} → q < length l → a ≡ getD l q 0 → y ≡ min a x → (set l q y ≡ lowered l q x) × (y ≡ getD (set l q y) q 0)
+lower-made l q x {y = y} inside a-is y-is = (rw (y-is, a-is) (set-min-lowered l q x), sym (getD-set-same l q y 0 inside))
 
 -- ---- weigh
 pub weigh-set : (f : ℕ → ℕ) (l : List ℕ) (q x : ℕ) → q < length l → weigh f (set l q x) + f (getD l q 0) ≡ weigh f l + f x

@@ -1,16 +1,16 @@
--- The laws of `columnSum` (`specs/Sweep.antt`) and `others` (`specs/Table.antt`). No contract cites this file. `column-sum-more` is a turn
+-- The laws of `columnSum`, `widest` (`specs/Sweep.antt`) and `others` (`specs/Table.antt`). No contract cites this file. `column-sum-more` is a turn
 -- of a loop that sums; `column-sum-others`: of two functions in order, the sums over the other values are in order;
 -- `others-own`: the sum over the others and the own entry make the whole sum.
 -- Assumes nothing.
 use mathlib.Core.Path.{_≡_, refl}
-use Prim.Native.Nat.{ℕ, zero, suc, _+_, _≤_, _<_}
+use Prim.Native.Nat.{ℕ, zero, suc, _+_, _-_, _≤_, _<_, max}
 use native.Mathlib.Nat.{le-refl, not-suc-le-zero}
 use native.Mathlib.Numerals.{add-one}
 use native.Mathlib.Decide.{ℕ-discrete}
 use native.Mathlib.Omega.{arith}
 use borrow.Author.Tests.{eq-eqb, ne-eqb}
-use Rattle.closing_model.specs.Table.{place, others}
-use Rattle.closing_model.specs.Sweep.{columnSum}
+use Rattle.closing_model.specs.Table.{Table, place, others}
+use Rattle.closing_model.specs.Sweep.{columnSum, widest}
 
 -- ---- columnSum
 pub column-sum-none : (n t : ℕ) (f : ℕ → ℕ) → 0 ≡ columnSum n 0 f t
@@ -55,6 +55,29 @@ pub column-sum-zero : (n t : ℕ) (f : ℕ → ℕ) (k : ℕ) → ((w : ℕ) →
 unfolding columnSum
 column-sum-zero n t f zero empty = refl
 column-sum-zero n t f (suc k) empty = omega (arith, column-sum-zero n t f k (λ w w<k. empty w (omega arith)), empty k (omega arith))
+
+-- ---- widest
+pub widest-none : (n t : ℕ) (T : Table) → 0 ≡ widest n 0 T t
+unfolding widest
+widest-none n t T = refl
+
+widest-next : (n t : ℕ) (T : Table) (v : ℕ) → widest n (v + 1) T t ≡ max (widest n v T t) (T .upper (place n v t) - T .lower (place n v t))
+unfolding widest
+widest-next n t T v = rw (add-one v)
+
+pub widest-more : (n t : ℕ) (T : Table) (v p : ℕ) {w a b d w′ : ℕ} → w ≡ widest n v T t → p ≡ place n v t → a ≡ T .lower p → b ≡ T .upper p → d ≡ b - a
+    → w′ ≡ max w d → w′ ≡ widest n (v + 1) T t
+widest-more n t T v p so-far p-is a-is b-is d-is new-is = rw (new-is, d-is, a-is, b-is, p-is, so-far, widest-next n t T v)
+
+pub widest-part : (n t : ℕ) (T : Table) (k v : ℕ) → v < k → T .upper (place n v t) - T .lower (place n v t) ≤ widest n k T t
+unfolding widest
+widest-part n t T zero v v<k = absurd (not-suc-le-zero v<k)
+widest-part n t T (suc k) v v<k = go (ℕ-discrete v k) (widest-part n t T k v)
+  where
+    go : Dec (v ≡ k) → (v < k → T .upper (place n v t) - T .lower (place n v t) ≤ widest n k T t)
+        → T .upper (place n v t) - T .lower (place n v t) ≤ widest n (suc k) T t
+    go (yes e) before = rw e (omega arith)
+    go (no ne) before = omega (arith, before (omega arith))
 
 -- ---- others
 module _ (n t : ℕ) (f : ℕ → ℕ) (v : ℕ) where

@@ -1,7 +1,11 @@
 -- What the steps of a sweep do to two lists that hold a table: the relations that the contracts of `bounds` cite.
 --   columnSum n k f t    the sum of f over the first k values, at prefix t
+--   widest n k T t       the widest gap from a lower to its upper over the first k values, at prefix t
+--   SumsAre              what the uppers and the lowers of all values sum up to, at prefix t
 --   Fwd p, Bwd p         the rules from place p to the next of its line, and from that one back to p
 --   Fwds, Bwds, Line     the same along a line that starts at place base: its first n pairs, its pairs from t to n, both
+--   Steps f p, Stairs    f is the same or one more at the next place; so at each of the n pairs from base on
+--   Decides P r          r says whether P holds
 --   Crosswise, Across    the rules across the values, with the whole sum: at one value, at every value
 --   Columns n k e        the same at every prefix below e
 --   ClosedBySums n k     all rules in this form (`closed-by-sums`, `by-sums-closed`: it is `Closed`)
@@ -10,11 +14,12 @@
 --   Stored               both lists after the lower at a place was raised and the upper there lowered
 --   weigh, slack         what is left to fall: each store of a rule makes it less
 --   Swept, Ran, Did      what a run of rules did to the lists; r says whether it stored
+--   Passed               the same where no one is told whether it stored
 -- Assumes nothing.
 use mathlib.Core.Path.{_≡_}
 use mathlib.Core.Bool.{Bool, true, false, cond, _||_}
 use mathlib.Core.List.{List, [], _∷_}
-use Prim.Native.Nat.{ℕ, zero, suc, _+_, _-_, _*_, _≤_, _<_}
+use Prim.Native.Nat.{ℕ, zero, suc, _+_, _-_, _*_, _≤_, _<_, max}
 use lib.Dec.{ltb}
 use lib.ListN.{length, getD, set}
 use Rattle.closing_model.specs.Table.{Table, view, place, Within}
@@ -22,6 +27,14 @@ use Rattle.closing_model.specs.Table.{Table, view, place, Within}
 unfoldable pub columnSum : ℕ → ℕ → (ℕ → ℕ) → ℕ → ℕ
 columnSum n zero f t = 0
 columnSum n (suc v) f t = columnSum n v f t + f (place n v t)
+
+unfoldable pub widest : ℕ → ℕ → Table → ℕ → ℕ
+widest n zero T t = 0
+widest n (suc v) T t = max (widest n v T t) (T .upper (place n v t) - T .lower (place n v t))
+
+pub record SumsAre (n k t su sl : ℕ) (T : Table) : Type 0 where
+  pub uppers : columnSum n k (T .upper) t ≡ su
+  pub lowers : columnSum n k (T .lower) t ≡ sl
 
 -- ---- the rules along a line
 pub record Fwd (p : ℕ) (T : Table) : Type 0 where
@@ -41,6 +54,18 @@ Bwds base t n T = (i : ℕ) → t ≤ i → i < n → Bwd (base + i) T
 pub record Line (base n : ℕ) (T : Table) : Type 0 where
   pub fwd : Fwds base n T
   pub bwd : Bwds base 0 n T
+
+-- of lowers as of uppers, the rules both ways say this
+pub record Steps (f : ℕ → ℕ) (p : ℕ) : Type 0 where
+  pub grows : f p ≤ f (p + 1)
+  pub slowly : f (p + 1) ≤ f p + 1
+
+abbrev pub Stairs : (ℕ → ℕ) → ℕ → ℕ → Type 0
+Stairs f base n = (t : ℕ) → t < n → Steps f (base + t)
+
+abbrev pub Decides : Type 0 → Bool → Type 0
+Decides P true = P
+Decides P false = P → ⊥
 
 -- ---- the rules across the values
 pub record Crosswise (n k t v : ℕ) (T : Table) : Type 0 where
@@ -102,3 +127,7 @@ pub record Ran (edge : ℕ) (P Q : Table → Type 0) (L U L′ U′ : List ℕ) 
 -- the same where it is the rules themselves that hold
 abbrev pub Did : ℕ → (Table → Type 0) → List ℕ → List ℕ → List ℕ → List ℕ → Bool → Type 0
 Did edge P = Ran edge P P
+
+pub record Passed (edge : ℕ) (P : Table → Type 0) (L U L′ U′ : List ℕ) : Type 0 where
+  pub stored : Bool
+  pub did : Did edge P L U L′ U′ stored

@@ -1,180 +1,133 @@
-//! A closing in plain Rust, written for speed: the same sweeps as the proved one, each type's line forward
-//! and back and then across the types by sums, in place on two tables of 16 bits, until a sweep changes
-//! nothing. Its tables have the types of one end side by side, which vector instructions take together, and
-//! are turned at the end.
-
-use std::array;
+//! A closing in plain Rust, written for speed in the layout of the entry: two tables of 16 bits, type by
+//! type, closed in place with no other array. Each sweep takes each type's line forward and back with the
+//! running bounds in registers, then goes across the types at each end with sums, until a sweep changes
+//! nothing. A line or an end that keeps its rules is only read.
 
 use plain_filter::refusal;
 
-const MOST_ENDS: usize = 257;
-
-/// The bounds of all types at one end, in lanes of which the first k are used. The lanes past them have
-/// bounds 0 and 0: these keep every rule that the used ones keep.
-type Lanes<const L: usize> = [i16; L];
-
-/// The bounds of all types. Entries are signed: a sum may fall below 0 on the way.
-struct Table<const L: usize> {
-    lowers: [Lanes<L>; MOST_ENDS],
-    uppers: [Lanes<L>; MOST_ENDS],
-}
+use crate::bounds::Bounds;
 
 /// An entry is crossed.
 struct Crossed;
 
-/// The closed bounds of all types, a line for each.
-pub struct Bounds {
-    /// n + 1.
-    ends: usize,
-    types: usize,
-    lowers: Vec<i16>,
-    uppers: Vec<i16>,
-}
-
-impl Bounds {
-    pub fn types(&self) -> usize {
-        self.types
-    }
-
-    /// The lowers of type v at the ends 0 to n.
-    pub fn lowers(&self, v: usize) -> &[i16] {
-        &self.lowers[v * self.ends..][..self.ends]
-    }
-
-    /// The uppers of type v at the ends 0 to n.
-    pub fn uppers(&self, v: usize) -> &[i16] {
-        &self.uppers[v * self.ends..][..self.ends]
-    }
-}
-
-/// Closes the book into bytes, with the answers of `nested_gcc_close`.
-pub fn close(book: &[u8], lowers: &mut [u8], uppers: &mut [u8]) -> u32 {
-    let closed = match close_bounds(book) {
-        Ok(closed) => closed,
-        Err(number) => return 256 + number,
-    };
-    let entries = usize::from(book[2]) * (two(book, 0) as usize + 1);
-    if lowers.len() / 2 < entries || uppers.len() / 2 < entries {
-        return 256 + 9;
-    }
-    match closed {
-        None => {
-            lowers[..2 * entries].fill(0);
-            uppers[..2 * entries].fill(0);
-            1
-        }
-        Some(bounds) => {
-            write(&bounds.lowers, lowers);
-            write(&bounds.uppers, uppers);
-            0
-        }
-    }
-}
-
 /// Closes the book: its bounds, or `None` if it is dead, or the number of its refusal.
-pub fn close_bounds(book: &[u8]) -> Result<Option<Bounds>, u32> {
+pub fn close(book: &[u8]) -> Result<Option<Bounds>, u32> {
     match refusal(book) {
-        0 => Ok(match book[2] {
-            0..=8 => close_lanes::<8>(book),
-            9..=16 => close_lanes::<16>(book),
-            _ => close_lanes::<32>(book),
-        }),
+        0 => Ok(close_good(book)),
         number => Err(number),
     }
 }
 
-fn two(bytes: &[u8], at: usize) -> i16 {
-    i16::from_le_bytes([bytes[at], bytes[at + 1]])
+fn close_good(book: &[u8]) -> Option<Bounds> {
+    let (n, types) = (usize::from(two(book, 0)), usize::from(book[2]));
+    let (mut lowers, mut uppers) = (vec![0; types * (n + 1)], vec![0; types * (n + 1)]);
+    start(book, n, &mut lowers, &mut uppers);
+    while sweep(&mut lowers, &mut uppers, n).ok()? {}
+    Some(Bounds::new(n + 1, types, lowers, uppers))
 }
 
-fn close_lanes<const L: usize>(book: &[u8]) -> Option<Bounds> {
-    let (ends, types) = (two(book, 0) as usize + 1, usize::from(book[2]));
-    let mut table = Table { lowers: [[0; L]; MOST_ENDS], uppers: [[0; L]; MOST_ENDS] };
-    start(book, &mut table);
-    while sweep(&mut table.lowers[..ends], &mut table.uppers[..ends]).ok()? {}
-    let [lowers, uppers] = [&table.lowers, &table.uppers].map(|bounds| lines(&bounds[..ends], types));
-    Some(Bounds { ends, types, lowers, uppers })
+fn two(bytes: &[u8], at: usize) -> u16 {
+    u16::from_le_bytes([bytes[at], bytes[at + 1]])
 }
 
-/// Makes the starting table of one that is all 0.
-fn start<const L: usize>(book: &[u8], table: &mut Table<L>) {
-    let n = two(book, 0) as usize;
-    let k = usize::from(book[2]);
-    for (t, uppers) in table.uppers[..=n].iter_mut().enumerate() {
-        uppers[..k].fill(t as i16);
+/// Makes the starting table, where the lowers are all 0.
+fn start(book: &[u8], n: usize, lowers: &mut [u16], uppers: &mut [u16]) {
+    for line in uppers.chunks_exact_mut(n + 1) {
+        for (t, upper) in line.iter_mut().enumerate() {
+            *upper = t as u16;
+        }
     }
     for row in book[12 + 4 * n..].chunks_exact(8) {
-        let (board_type, end) = (usize::from(row[0]), two(row, 2) as usize);
-        let lower = &mut table.lowers[end][board_type];
-        *lower = (*lower).max(two(row, 4));
-        // No upper bound is 65535, which is -1 in 16 signed bits.
-        if two(row, 6) >= 0 {
-            let upper = &mut table.uppers[end][board_type];
-            *upper = (*upper).min(two(row, 6));
+        let place = usize::from(row[0]) * (n + 1) + usize::from(two(row, 2));
+        lowers[place] = lowers[place].max(two(row, 4));
+        uppers[place] = uppers[place].min(two(row, 6));
+    }
+}
+
+/// Whether an entry changed.
+fn sweep(lowers: &mut [u16], uppers: &mut [u16], n: usize) -> Result<bool, Crossed> {
+    let mut changed = false;
+    for (lower, upper) in lowers.chunks_exact_mut(n + 1).zip(uppers.chunks_exact_mut(n + 1)) {
+        if !keeps(lower, upper) {
+            forward(lower, upper);
+            backward(lower, upper)?;
+            changed = true;
         }
     }
+    for t in 0..=n {
+        changed |= across(&mut lowers[t..], &mut uppers[t..], n, t as i32)?;
+    }
+    Ok(changed)
 }
 
-/// Each type's line forward, then back, and at each end on the way back across the types. Whether an entry
-/// changed.
-fn sweep<const L: usize>(lowers: &mut [Lanes<L>], uppers: &mut [Lanes<L>]) -> Result<bool, Crossed> {
-    let mut changed = [0; L];
-    let (mut least, mut most) = ([0; L], [0; L]);
-    for (lower, upper) in lowers.iter_mut().zip(uppers.iter_mut()) {
-        set(lower, &least, i16::max, &mut changed);
-        set(upper, &most, i16::min, &mut changed);
-        least = *lower;
-        most = upper.map(|upper| upper + 1);
+/// Whether a line keeps all rules between an end and the next and has no crossed entry: then no pass is made.
+/// Vector instructions take several ends together.
+fn keeps(lowers: &[u16], uppers: &[u16]) -> bool {
+    let mut broken = uppers[0] < lowers[0];
+    let pairs = lowers.iter().zip(&lowers[1..]).zip(uppers.iter().zip(&uppers[1..]));
+    for ((lower, next_lower), (upper, next_upper)) in pairs {
+        broken |= next_lower.wrapping_sub(*lower) > 1;
+        broken |= next_upper.wrapping_sub(*upper) > 1;
+        broken |= next_upper < next_lower;
     }
-    least = [0; L];
-    for (t, (lower, upper)) in lowers.iter_mut().zip(uppers.iter_mut()).enumerate().rev() {
-        set(lower, &least, i16::max, &mut changed);
-        set(upper, &most, i16::min, &mut changed);
-        across(t as i16, lower, upper, &mut changed);
-        if (0..L).fold(0, |signs, v| signs | (upper[v] - lower[v])) < 0 {
-            return Err(Crossed);
-        }
-        least = lower.map(|lower| lower - 1);
-        most = *upper;
-    }
-    Ok(changed.iter().any(|&bits| bits != 0))
+    !broken
 }
 
-/// Sets each entry to the better of itself and the bound, and notes the bits that change.
-fn set<const L: usize>(
-    entry: &mut Lanes<L>,
-    bound: &Lanes<L>,
-    better: fn(i16, i16) -> i16,
-    changed: &mut Lanes<L>,
-) {
-    let value = array::from_fn(|v| better(entry[v], bound[v]));
-    for v in 0..L {
-        changed[v] |= entry[v] ^ value[v];
+/// One type's line, from its start to its end: a lower is at least the one before, an upper at most one more.
+fn forward(lowers: &mut [u16], uppers: &mut [u16]) {
+    let (mut least, mut most) = (0, 0);
+    for (lower, upper) in lowers.iter_mut().zip(uppers) {
+        least = least.max(*lower);
+        most = most.min(*upper);
+        *lower = least;
+        *upper = most;
+        most += 1;
     }
-    *entry = value;
 }
 
-/// Each lower at least t less the other types' uppers, each upper at most t less the other types' lowers.
-fn across<const L: usize>(t: i16, lower: &mut Lanes<L>, upper: &mut Lanes<L>, changed: &mut Lanes<L>) {
-    let sum: i16 = upper.iter().sum();
-    set(lower, &upper.map(|upper| t - (sum - upper)), i16::max, changed);
-    let sum: i16 = lower.iter().sum();
-    set(upper, &lower.map(|lower| t - (sum - lower)), i16::min, changed);
+/// One type's line, from its end to its start: a lower is at least the one after less 1, an upper at most
+/// that one.
+fn backward(lowers: &mut [u16], uppers: &mut [u16]) -> Result<(), Crossed> {
+    let mut crossed = false;
+    let (mut least, mut most) = (0_u16, u16::MAX);
+    for (lower, upper) in lowers.iter_mut().zip(uppers).rev() {
+        least = least.saturating_sub(1).max(*lower);
+        most = most.min(*upper);
+        crossed |= most < least;
+        *lower = least;
+        *upper = most;
+    }
+    if crossed {
+        return Err(Crossed);
+    }
+    Ok(())
 }
 
-/// The bounds with a line for each type.
-fn lines<const L: usize>(bounds: &[Lanes<L>], types: usize) -> Vec<i16> {
-    let mut lines = vec![0; types * bounds.len()];
-    for (v, line) in lines.chunks_exact_mut(bounds.len()).enumerate() {
-        for (lanes, entry) in bounds.iter().zip(line) {
-            *entry = lanes[v];
-        }
+/// The rules across the types at end t, whose entries stand n + 1 apart. A lower must rise, or an upper fall,
+/// just where a gap between the two is wider than what one of the sums leaves.
+fn across(lowers: &mut [u16], uppers: &mut [u16], n: usize, t: i32) -> Result<bool, Crossed> {
+    let uppers = &mut uppers[..lowers.len()];
+    let (mut lower_sum, mut upper_sum, mut widest) = (0, 0, 0);
+    let mut place = 0;
+    while place < lowers.len() {
+        let (lower, upper) = (i32::from(lowers[place]), i32::from(uppers[place]));
+        lower_sum += lower;
+        upper_sum += upper;
+        widest = widest.max(upper - lower);
+        place += n + 1;
     }
-    lines
-}
-
-fn write(entries: &[i16], output: &mut [u8]) {
-    for (entry, bytes) in entries.iter().zip(output.chunks_exact_mut(2)) {
-        bytes.copy_from_slice(&entry.to_le_bytes());
+    if lower_sum > t || upper_sum < t {
+        return Err(Crossed);
     }
+    if widest <= (upper_sum - t).min(t - lower_sum) {
+        return Ok(false);
+    }
+    let mut place = 0;
+    while place < lowers.len() {
+        let (lower, upper) = (i32::from(lowers[place]), i32::from(uppers[place]));
+        lowers[place] = lower.max(t - (upper_sum - upper)) as u16;
+        uppers[place] = upper.min(t - (lower_sum - lower)) as u16;
+        place += n + 1;
+    }
+    Ok(true)
 }

@@ -2,11 +2,14 @@
 //! `cargo run --release -p bench`. It prints ratios of medians; the times beside them are this machine's, at
 //! this moment.
 
+mod bounds;
 mod in_place;
+mod lanes;
 mod opening;
 
 use std::time::Instant;
 
+use bounds::Closing;
 use nested_gcc::{close_into, settle_into, Verdict, MASKS_BYTES, TABLE_BYTES};
 use plain_filter::Book;
 use random_books::{bytes, masks_around, near_plan, plan, row_near_plan, Random};
@@ -48,12 +51,22 @@ impl Outputs {
 
 type Contender = fn(&[u8], &mut Outputs);
 
-/// Three ways to do one thing.
+/// Four ways to do one thing: proved; plain with the tables in the layout of the entry; plain with the types of
+/// one end side by side; and by the rules word for word.
 struct Contest {
     name: &'static str,
     proved: Contender,
-    optimised: Contender,
+    in_place: Contender,
+    lanes: Contender,
     naive: Contender,
+}
+
+fn close_plain(closing: Closing, book: &[u8], outputs: &mut Outputs) -> u32 {
+    bounds::close_into(closing, book, &mut outputs.lowers, &mut outputs.uppers)
+}
+
+fn settle_plain(closing: Closing, book: &[u8], outputs: &mut Outputs) -> u32 {
+    opening::settle_into(closing, book, &mut outputs.masks)
 }
 
 const CLOSE: Contest = Contest {
@@ -61,8 +74,11 @@ const CLOSE: Contest = Contest {
     proved: |book, outputs| {
         assert_eq!(close_into(book, &mut outputs.lowers, &mut outputs.uppers), Ok(Verdict::Live));
     },
-    optimised: |book, outputs| {
-        assert_eq!(in_place::close(book, &mut outputs.lowers, &mut outputs.uppers), 0);
+    in_place: |book, outputs| {
+        assert_eq!(close_plain(in_place::close, book, outputs), 0);
+    },
+    lanes: |book, outputs| {
+        assert_eq!(close_plain(lanes::close, book, outputs), 0);
     },
     naive: |book, outputs| {
         let book = Book::parse(book).expect("a good book");
@@ -79,7 +95,8 @@ const CLOSE: Contest = Contest {
 const SETTLE: Contest = Contest {
     name: "settle",
     proved: |book, outputs| assert_eq!(settle_into(book, &mut outputs.masks), Ok(Verdict::Live)),
-    optimised: |book, outputs| assert_eq!(opening::settle(book, &mut outputs.masks), 0),
+    in_place: |book, outputs| assert_eq!(settle_plain(in_place::close, book, outputs), 0),
+    lanes: |book, outputs| assert_eq!(settle_plain(lanes::close, book, outputs), 0),
     naive: |book, outputs| {
         let book = Book::parse(book).expect("a good book");
         let masks = plain_filter::settle(&book).masks.expect("a live book");
@@ -110,7 +127,8 @@ fn medians<const N: usize>(contenders: [Contender; N], books: &[Vec<u8>], passes
 /// All contenders write the same.
 fn assert_same(contest: &Contest, books: &[Vec<u8>]) {
     for book in books {
-        let outputs = [contest.proved, contest.optimised, contest.naive].map(|contender| {
+        let contenders = [contest.proved, contest.in_place, contest.lanes, contest.naive];
+        let outputs = contenders.map(|contender| {
             let mut outputs = Outputs::new();
             contender(book, &mut outputs);
             outputs
@@ -122,8 +140,8 @@ fn assert_same(contest: &Contest, books: &[Vec<u8>]) {
 fn main() {
     println!("{BOOKS} tight live books of each size; median time of a book in microseconds, and ratios");
     println!(
-        "{:14} {:>9} {:>10} {:>9} {:>17} {:>13}",
-        "", "proved", "optimised", "naive", "proved/optimised", "proved/naive"
+        "{:14} {:>8} {:>9} {:>7} {:>9} {:>16} {:>13} {:>13}",
+        "", "proved", "in place", "lanes", "naive", "proved/in place", "proved/lanes", "proved/naive"
     );
     for contest in [CLOSE, SETTLE] {
         let mut random = Random::new(0x51ed_270b_9f3a_c84d);
@@ -131,12 +149,14 @@ fn main() {
             let books: Vec<Vec<u8>> =
                 (0..BOOKS).map(|_| bytes(&tight_book(&mut random, n, k, distance))).collect();
             assert_same(&contest, &books);
-            let [proved, optimised] = medians([contest.proved, contest.optimised], &books, PASSES);
+            let [proved, in_place, lanes] =
+                medians([contest.proved, contest.in_place, contest.lanes], &books, PASSES);
             let [naive] = medians([contest.naive], &books, NAIVE_PASSES);
             println!(
-                "{:14} {proved:>9.1} {optimised:>10.1} {naive:>9.1} {:>17.2} {:>13.4}",
+                "{:14} {proved:>8.1} {in_place:>9.1} {lanes:>7.1} {naive:>9.1} {:>16.2} {:>13.2} {:>13.4}",
                 format!("{} {n}x{k}", contest.name),
-                proved / optimised,
+                proved / in_place,
+                proved / lanes,
                 proved / naive,
             );
         }
@@ -148,9 +168,9 @@ mod tests {
     use super::*;
     use plain_filter::Row;
 
-    /// The optimised contenders answer and write as the plain filter does, for live and for dead books.
+    /// The plain contenders answer and write as the plain filter does, for live and for dead books.
     #[test]
-    fn optimised_contenders_are_right() {
+    fn plain_contenders_are_right() {
         let mut random = Random::new(0x1f83_d9ab_fb41_bd6b);
         let mut met = [[0; 2]; 2];
         for _ in 0..3000 {
@@ -161,28 +181,30 @@ mod tests {
             book.rows.push(Row { board_type, end, lower, upper });
             let slot = random.below(n);
             book.masks[slot] = 1 << random.below(k);
-
-            let mut outputs = Outputs::new();
-            let answer = in_place::close(&bytes(&book), &mut outputs.lowers, &mut outputs.uppers);
             let table = plain_filter::close(&book).table;
-            assert_eq!(answer, u32::from(table.is_none()), "{book:?}");
-            if let Some(table) = table {
-                for (bounds, output) in [(table.lower, outputs.lowers), (table.upper, outputs.uppers)] {
-                    let bounds: Vec<u8> =
-                        bounds.concat().iter().flat_map(|&bound| (bound as u16).to_le_bytes()).collect();
-                    assert_eq!(output[..bounds.len()], bounds, "{book:?}");
+            let masks = plain_filter::settle(&book).masks;
+            met[0][usize::from(table.is_none())] += 1;
+            met[1][usize::from(masks.is_err())] += 1;
+
+            for closing in [in_place::close as Closing, lanes::close] {
+                let mut outputs = Outputs::new();
+                let answer = close_plain(closing, &bytes(&book), &mut outputs);
+                assert_eq!(answer, u32::from(table.is_none()), "{book:?}");
+                if let Some(table) = &table {
+                    for (bounds, output) in [(&table.lower, &outputs.lowers), (&table.upper, &outputs.uppers)]
+                    {
+                        let bounds: Vec<u8> =
+                            bounds.concat().iter().flat_map(|&bound| (bound as u16).to_le_bytes()).collect();
+                        assert_eq!(output[..bounds.len()], bounds, "{book:?}");
+                    }
+                }
+                let answer = settle_plain(closing, &bytes(&book), &mut outputs);
+                assert_eq!(answer, u32::from(masks.is_err()), "{book:?}");
+                if let Ok(masks) = &masks {
+                    let masks: Vec<u8> = masks.iter().flat_map(|mask| mask.to_le_bytes()).collect();
+                    assert_eq!(outputs.masks[..masks.len()], masks, "{book:?}");
                 }
             }
-            met[0][answer as usize] += 1;
-
-            let answer = opening::settle(&bytes(&book), &mut outputs.masks);
-            let masks = plain_filter::settle(&book).masks;
-            assert_eq!(answer, u32::from(masks.is_err()), "{book:?}");
-            if let Ok(masks) = masks {
-                let masks: Vec<u8> = masks.iter().flat_map(|mask| mask.to_le_bytes()).collect();
-                assert_eq!(outputs.masks[..masks.len()], masks, "{book:?}");
-            }
-            met[1][answer as usize] += 1;
         }
         println!("live and dead in closing, then in settling: {met:?}");
         assert!(met.iter().flatten().all(|&books| books >= 300), "{met:?}");

@@ -1,7 +1,7 @@
-//! A settling in plain Rust, written for speed: the bounds come from the closing of `in_place`; then each type
+//! A settling in plain Rust, written for speed: the bounds come from a closing; then each type
 //! whose counts have changed is counted anew along its line, and what its last full or spent end asks for is cut.
 
-use crate::in_place::{self, Bounds};
+use crate::bounds::{Bounds, Closing};
 
 /// The masks while they settle.
 struct Masks {
@@ -16,8 +16,8 @@ struct Masks {
 struct Dead;
 
 /// Settles the book into bytes, with the answers of `nested_gcc_settle`.
-pub fn settle(book: &[u8], output: &mut [u8]) -> u32 {
-    let closed = match in_place::close_bounds(book) {
+pub fn settle_into(closing: Closing, book: &[u8], output: &mut [u8]) -> u32 {
+    let closed = match closing(book) {
         Ok(closed) => closed,
         Err(number) => return 256 + number,
     };
@@ -62,8 +62,8 @@ impl Masks {
         let (mut p, mut b) = (0, 0);
         let (lowers, uppers) = (&bounds.lowers(v)[1..], &bounds.uppers(v)[1..]);
         for (s, ((mask, lower), upper)) in self.masks[..n].iter().zip(lowers).zip(uppers).enumerate() {
-            p += (mask >> v & 1) as i16;
-            b += i16::from(*mask == 1 << v);
+            p += (mask >> v & 1) as u16;
+            b += u16::from(*mask == 1 << v);
             if p < *lower || b > *upper {
                 return Err(Dead);
             }

@@ -1,61 +1,82 @@
--- `bounds::along::backward_pass` meets its contract. The invariant of its loop: t is at most n, and the run so far kept the rules of the line,
--- which hold at the pairs from t on where nothing was stored. The measure is t. `backward-turn` is the turn. Assumes nothing.
-use mathlib.Core.Path.{_≡_, refl}
-use Prim.Native.Nat.{_+_, _≤_}
+-- `bounds::along::backward_pass` meets its contract. The invariant of its loop, `BackwardInv`: a and b are the bounds at t, and the run so far
+-- kept the rules of the line, which hold at the pairs from t on where nothing was stored. The measure is t. `backward-more` is the turn.
+-- Assumes nothing.
 use native.Mathlib.Omega.{arith}
-use Rattle.closing_model.specs.Sweep.{Bwds, Ran}
-use Rattle.closing_model.proofs.RanLaws.{ran-none, or-when, or-else}
-use Rattle.closing_model.proofs.LineLaws.{backward-turn}
+use Rattle.closing_model.proofs.LineLaws.{BackwardInv, backward-start, backward-more, backward-done}
 use Rattle.bounds.proofs.along.backward_pass.Statement.{statement}
 use Rattle.bounds.proofs.along.backward_pass.Tie as tie
 
 abbrev Inv-loop : tie.InvT-loop
-Inv-loop lowers₀ uppers₀ base n changed₀ t₀ lowers uppers changed t =
-    (t ≤ n) × Ran (base + n + 1) (Bwds base 0 n) (Bwds base t n) lowers₀ uppers₀ lowers uppers changed
+Inv-loop lowers₀ uppers₀ base n a₀ b₀ t₀ lowers uppers a b t =
+    BackwardInv base n lowers₀ uppers₀ lowers uppers a b t
 
 abbrev μ-loop : tie.MeasureT-loop
-μ-loop lowers₀ uppers₀ base n changed₀ t₀ lowers uppers changed t = t
+μ-loop lowers₀ uppers₀ base n a₀ b₀ t₀ lowers uppers a b t =
+    t
+
+add-at : tie.Need-add-at Inv-loop μ-loop
+add-at c =
+    omega arith
+
+at-requires : tie.Need-at-requires Inv-loop μ-loop
+at-requires c κs =
+    omega arith
+
+add-at-2 : tie.Need-add-at-2 Inv-loop μ-loop
+add-at-2 c =
+    omega arith
+
+at-requires-2 : tie.Need-at-requires-2 Inv-loop μ-loop
+at-requires-2 c κs =
+    omega arith
 
 loop-holds : tie.Need-loop-holds Inv-loop μ-loop
-loop-holds c = (omega arith, ran-none _ _ _ _ _ (λ i n≤i i<n. absurd (omega arith)))
+loop-holds c =
+    backward-start _ _ _ _ (c .before .before .at .ensures .0) (c .before .before .at .ensures .1) (c .at2 .ensures .0)
 
 sub-t : tie.Need-sub-t Inv-loop μ-loop
-sub-t c = omega arith
+sub-t c =
+    omega arith
 
-add-backward : tie.Need-add-backward Inv-loop μ-loop
-add-backward c = omega arith
+add-raise : tie.Need-add-raise Inv-loop μ-loop
+add-raise c =
+    omega arith
 
-backward-requires : tie.Need-backward-requires Inv-loop μ-loop
-backward-requires c κs = omega arith
+less-requires : tie.Need-less-requires Inv-loop μ-loop
+less-requires c κs =
+    tt
+
+raise-requires : tie.Need-raise-requires Inv-loop μ-loop
+raise-requires c κs =
+    omega arith
+
+add-lower-to : tie.Need-add-lower-to Inv-loop μ-loop
+add-lower-to c =
+    omega arith
+
+lower-to-requires : tie.Need-lower-to-requires Inv-loop μ-loop
+lower-to-requires c κs =
+    omega arith
 
 loop-less : tie.Need-loop-less Inv-loop μ-loop
-loop-less c = omega arith
+loop-less c =
+    omega arith
 
 loop-again : tie.Need-loop-again Inv-loop μ-loop
 loop-again c =
-    let start = c .before .before .before .before .before .before .before .before .before .before .before .before in
-    let turn = c .before .before .before .before .before .before .before .before .before in
-    (omega arith, backward-turn (start .args .base) (start .args .n) (turn .loop .t) (c .before .before .before .before .before .before .before .before .loop-test .taken) (turn .loop .inv .0) (turn .loop .inv .1) (c .before .before .before .before .before .backward .ensures) (or-when (turn .loop .changed) (c .if1 .taken) refl))
-
-loop-less-2 : tie.Need-loop-less-2 Inv-loop μ-loop
-loop-less-2 c = omega arith
-
-loop-again-2 : tie.Need-loop-again-2 Inv-loop μ-loop
-loop-again-2 c =
-    let start = c .before .before .before .before .before .before .before .before .before .before .before .before in
-    let turn = c .before .before .before .before .before .before .before .before .before in
-    (omega arith, backward-turn (start .args .base) (start .args .n) (turn .loop .t) (c .before .before .before .before .before .before .before .before .loop-test .taken) (turn .loop .inv .0) (turn .loop .inv .1) (c .before .before .before .before .before .backward .ensures) (or-else (turn .loop .changed) (c .if1 .left) refl))
+    backward-more (c .before .before .before .before .before .before .before .before .before .before .loop .inv) (c .before .before .before .before .before .before .before .before .before .loop-test .taken) (c .before .before .before .before .before .before .before .before .before .before .before .before .before .before .before .before .before .pre .0) (c .before .before .before .before .before .before .before .before .before .before .before .before .before .before .before .before .before .pre .1) (c .before .before .before .before .before .before .before .less .ensures) (c .before .before .before .before .before .before .raise .ensures .0) (c .before .before .lower-to .ensures .0) (c .before .before .before .before .before .before .raise .ensures .1) (c .before .before .before .before .before .before .raise .ensures .2) (c .before .before .lower-to .ensures .1)
 
 same-length : tie.Need-same-length Inv-loop μ-loop
-same-length c = omega arith
+same-length c =
+    omega arith
 
 same-length-2 : tie.Need-same-length-2 Inv-loop μ-loop
-same-length-2 c = omega arith
+same-length-2 c =
+    omega arith
 
 returns : tie.Need-returns Inv-loop μ-loop
 returns c =
-    let whole : c .before .loop .t ≡ 0 = omega arith in
-    rw whole at (c .before .loop .inv .1)
+    backward-done (c .loop-test .left) (c .before .loop .inv)
 
 pub backward-pass-spec : {M : Type 1} → statement M
 backward-pass-spec =
@@ -63,14 +84,19 @@ backward-pass-spec =
     (tie.spec
     Inv-loop
     μ-loop
+    add-at
+    at-requires
+    add-at-2
+    at-requires-2
     loop-holds
     sub-t
-    add-backward
-    backward-requires
+    add-raise
+    less-requires
+    raise-requires
+    add-lower-to
+    lower-to-requires
     loop-less
     loop-again
-    loop-less-2
-    loop-again-2
     same-length
     same-length-2
     returns)

@@ -1,15 +1,13 @@
--- `bounds::along::line` meets its contract, by `line-did`: one pass after the other. Assumes nothing.
+-- `bounds::along::line` meets its contract: by `line-kept` where the line keeps its rules, by `line-moved` where it does not, for two passes that
+-- store nothing would leave it so. Assumes nothing.
 use borrow.Author.Needs.{needs}
-use Rattle.closing_model.proofs.RanLaws.{or-left, or-right}
-use Rattle.closing_model.proofs.LineLaws.{line-did}
+use Rattle.closing_model.proofs.RanLaws.{decided-true, decided-false}
+use Rattle.closing_model.proofs.LineLaws.{line-kept, line-moved}
 use Rattle.bounds.proofs.along.line.Statement.{statement}
 use Rattle.bounds.proofs.along.line.Tie as tie
 
-forward-pass-requires : tie.Need-forward-pass-requires
-forward-pass-requires c κs = search needs
-
-backward-pass-requires : tie.Need-backward-pass-requires
-backward-pass-requires c κs = search needs
+keeps-requires : tie.Need-keeps-requires
+keeps-requires c κs = search needs
 
 same-length : tie.Need-same-length
 same-length c = search needs
@@ -19,7 +17,13 @@ same-length-2 c = search needs
 
 returns : tie.Need-returns
 returns c =
-    line-did _ _ (c .before .before .before .before .before .before .before .before .before .before .before .before .forward-pass .ensures) (c .before .before .before .before .before .backward-pass .ensures) (or-left _ (c .if1 .taken))
+    line-kept _ _ _ _ (decided-true _ (c .if1 .taken) (c .before .keeps .ensures))
+
+forward-pass-requires : tie.Need-forward-pass-requires
+forward-pass-requires c κs = search needs
+
+backward-pass-requires : tie.Need-backward-pass-requires
+backward-pass-requires c κs = search needs
 
 same-length-3 : tie.Need-same-length-3
 same-length-3 c = search needs
@@ -29,17 +33,18 @@ same-length-4 c = search needs
 
 returns-2 : tie.Need-returns-2
 returns-2 c =
-    line-did _ _ (c .before .before .before .before .before .before .before .before .before .before .before .before .forward-pass .ensures) (c .before .before .before .before .before .backward-pass .ensures) (or-right _ (c .if1 .left))
+    line-moved _ _ (decided-false _ (c .before .before .before .before .before .before .before .before .before .before .before .before .before .before .if1 .left) (c .before .before .before .before .before .before .before .before .before .before .before .before .before .before .before .keeps .ensures)) (c .before .before .before .before .before .before .before .before .before .before .before .forward-pass .ensures) (c .before .before .before .before .backward-pass .ensures)
 
 pub line-spec : {M : Type 1} → statement M
 line-spec =
     tie.close
     (tie.spec
-    forward-pass-requires
-    backward-pass-requires
+    keeps-requires
     same-length
     same-length-2
     returns
+    forward-pass-requires
+    backward-pass-requires
     same-length-3
     same-length-4
     returns-2)

@@ -1,9 +1,19 @@
--- `bounds::store::narrow` meets its contract: the stores of `raise` and `lower_to`, and the flag is that of one or the other. Assumes nothing.
-use mathlib.Core.Path.{sym, _∙_}
+-- `bounds::store::narrow` meets its contract: the stores of `raise` and `lower_to`, and the flag by the entries as they were. Assumes nothing.
+use mathlib.Core.Path.{ap, _∙_}
+use native.Mathlib.Omega.{arith}
+use lib.Dec.{ltb}
+use lib.ListN.{getD}
 use borrow.Author.Needs.{needs}
+use borrow.Author.Tests.{lt-ltb, le-ltb}
 use Rattle.closing_model.proofs.RanLaws.{or-left, or-right}
 use Rattle.bounds.proofs.store.narrow.Statement.{statement}
 use Rattle.bounds.proofs.store.narrow.Tie as tie
+
+at-requires : tie.Need-at-requires
+at-requires c κs = search needs
+
+at-requires-2 : tie.Need-at-requires-2
+at-requires-2 c κs = search needs
 
 raise-requires : tie.Need-raise-requires
 raise-requires c κs = search needs
@@ -22,7 +32,7 @@ returns c =
     record {
       lowers = c .before .before .before .before .before .before .before .raise .ensures .0;
       uppers = c .before .before .before .lower-to .ensures .0;
-      flag = or-left _ (sym (c .before .before .before .before .before .before .before .raise .ensures .1) ∙ c .if1 .taken);
+      flag = or-left _ (lt-ltb (getD (c .before .before .before .before .before .before .before .before .before .before .before .before .before .before .before .args .lowers .now) (c .before .before .before .before .before .before .before .before .before .before .before .before .before .before .before .args .p) 0) (c .before .before .before .before .before .before .before .before .before .before .before .before .before .before .before .args .x) (omega (arith, c .before .before .before .before .before .before .before .before .before .before .before .at .ensures, c .if1 .taken)));
     }
 
 same-length-3 : tie.Need-same-length-3
@@ -36,13 +46,15 @@ returns-2 c =
     record {
       lowers = c .before .before .before .before .before .before .before .raise .ensures .0;
       uppers = c .before .before .before .lower-to .ensures .0;
-      flag = c .before .before .before .lower-to .ensures .1 ∙ or-right _ (sym (c .before .before .before .before .before .before .before .raise .ensures .1) ∙ c .if1 .left);
+      flag = ap (λ b. ltb (c .before .before .before .before .before .before .before .before .before .before .before .before .before .before .before .args .y) b) (c .before .before .before .before .before .before .before .before .before .at2 .ensures .0) ∙ or-right _ (le-ltb (getD (c .before .before .before .before .before .before .before .before .before .before .before .before .before .before .before .args .lowers .now) (c .before .before .before .before .before .before .before .before .before .before .before .before .before .before .before .args .p) 0) (c .before .before .before .before .before .before .before .before .before .before .before .before .before .before .before .args .x) (omega (arith, c .before .before .before .before .before .before .before .before .before .before .before .at .ensures, c .if1 .left)));
     }
 
 pub narrow-spec : {M : Type 1} → statement M
 narrow-spec =
     tie.close
     (tie.spec
+    at-requires
+    at-requires-2
     raise-requires
     lower-to-requires
     same-length

@@ -1,19 +1,19 @@
--- `bounds::store::raise` meets its contract: the test of the code is the test of `raised`, true where it stores. Assumes nothing.
-use mathlib.Core.Path.{_≡_}
-use mathlib.Core.Bool.{true, false}
+-- `bounds::store::raise` meets its contract, by `raise-made`: the store of the greater number is that of `raised`. Assumes nothing.
 use native.Mathlib.Omega.{arith}
-use lib.Dec.{ltb}
-use lib.ListN.{getD}
 use borrow.Author.Needs.{needs}
-use borrow.Author.Tests.{lt-ltb, le-ltb}
+use Rattle.closing_model.proofs.StoreLaws.{raise-made}
 use Rattle.bounds.proofs.store.raise.Statement.{statement}
 use Rattle.bounds.proofs.store.raise.Tie as tie
 
 at-requires : tie.Need-at-requires
 at-requires c κs = search needs
 
+greater-requires : tie.Need-greater-requires
+greater-requires c κs = search needs
+
 cast-s : tie.Need-cast-s
-cast-s c = search needs
+cast-s c =
+    omega arith
 
 mul-s : tie.Need-mul-s
 mul-s c = search needs
@@ -26,20 +26,10 @@ same-length c = search needs
 
 returns : tie.Need-returns
 returns c =
-    let start = c .before .before .before .before in
-    let e : ltb (getD (start .args .s .now) (start .args .p) 0) (start .args .x) ≡ true = lt-ltb (getD (start .args .s .now) (start .args .p) 0) (start .args .x) (omega arith) in
-    (simp e, simp e)
-
-same-length-2 : tie.Need-same-length-2
-same-length-2 c = search needs
-
-returns-2 : tie.Need-returns-2
-returns-2 c =
-    let start = c .before .before .before .before in
-    let e : ltb (getD (start .args .s .now) (start .args .p) 0) (start .args .x) ≡ false = le-ltb (getD (start .args .s .now) (start .args .p) 0) (start .args .x) (omega arith) in
-    (simp e, simp e)
+    let made = raise-made (c .before .before .before .before .args .s .now) (c .before .before .before .before .args .p) (c .before .before .before .before .args .x) (c .before .before .before .before .pre .0) (c .before .at .ensures .0) (c .greater .ensures) in
+    (made .0, made .1, omega arith)
 
 pub raise-spec : {M : Type 1} → statement M
 raise-spec =
     tie.close
-    (tie.spec at-requires cast-s mul-s slice-write-s same-length returns same-length-2 returns-2)
+    (tie.spec at-requires greater-requires cast-s mul-s slice-write-s same-length returns)
