@@ -5,6 +5,7 @@
  * nested_gcc_check    whether the bytes are a good book
  * nested_gcc_close    the bounds that follow from a book's rows, or that the book is dead
  * nested_gcc_settle   the types that each slot may still have, or that the book is dead
+ * nested_gcc_session  a list of calls on a settled book: decisions, marks to go back to, and questions
  *
  * A book, in little-endian numbers: slots n (2 bytes, 1 to 256), types k (1 byte, 1 to 32), a byte 0,
  * row count r (2 bytes, 0 to 1024), offset of the masks (2 bytes, 12), offset of the rows (2 bytes,
@@ -14,15 +15,16 @@
  * 65535 means no upper bound.
  *
  * For every function here:
- * - There is no premise on the bytes. For each book in readable and each output in writable memory the
- *   answer is defined, and follows from the book's bytes and the outputs' lengths alone.
+ * - There is no premise on the bytes. For each book and list of calls in readable and each output in
+ *   writable memory the answer is defined, and follows from the book, the calls and the outputs' lengths
+ *   alone.
  * - A pointer is never NULL, not even with length 0; with length 0 it may be any other pointer.
  * - Nothing is kept between calls and nothing is allocated, so any number of threads may call at once.
- * - A book is only read, and only during the call. No thread may change it meanwhile. Calls that run
- *   at once may share one book.
+ * - A book is only read, and only during the call, and so is a list of calls. No thread may change them
+ *   meanwhile. Functions that run at once may share them.
  * - An output is written only during the call, and only where the function's comment says so. What it
- *   holds before plays no part. It may not overlap the book or another output, and no other thread may
- *   use it meanwhile.
+ *   holds before plays no part. It may not overlap the book, the calls or another output, and no other
+ *   thread may use it meanwhile.
  * - Lengths are in bytes. An output's elements stand little-endian and need no alignment; a trailing part
  *   of an element neither counts nor is written.
  * - The stack that a call needs at most is told for each function. The need is measured by
@@ -45,8 +47,8 @@ extern "C" {
 #define NESTED_GCC_LIVE 0u
 #define NESTED_GCC_DEAD 1u
 
-/* A refusal is NESTED_GCC_REFUSED + its number, 1 to 9. The answer is the first that applies in this
- * order: 1 to 4; 5 for the masks by slot; 6, 7, 8 for the first row, then for the next; 9. A function
+/* A refusal is NESTED_GCC_REFUSED + its number, 1 to 10. The answer is the first that applies in this
+ * order: 1 to 4; 5 for the masks by slot; 6, 7, 8 for the first row, then for the next; 10; 9. A function
  * that refuses writes nothing. */
 #define NESTED_GCC_REFUSED 256u
 #define NESTED_GCC_TOO_SHORT (NESTED_GCC_REFUSED + 1u)        /* book under 12 bytes */
@@ -58,6 +60,7 @@ extern "C" {
 #define NESTED_GCC_ROW_END (NESTED_GCC_REFUSED + 7u)          /* end 0 or above n */
 #define NESTED_GCC_ROW_BOUND (NESTED_GCC_REFUSED + 8u)        /* lower above 256; upper above 256, not 65535 */
 #define NESTED_GCC_OUTPUT_TOO_SHORT (NESTED_GCC_REFUSED + 9u) /* a lent output too short */
+#define NESTED_GCC_CALL_LIST (NESTED_GCC_REFUSED + 10u)       /* call list not whole calls, or over 16,384 bytes */
 
 /*
  * Whether the book_len bytes at book are a good book: NESTED_GCC_GOOD, or the refusal that comes first.
@@ -95,7 +98,7 @@ uint32_t nested_gcc_close(const uint8_t *book, size_t book_len,
                           uint8_t *lowers, size_t lowers_len,
                           uint8_t *uppers, size_t uppers_len);
 
-/* The most bytes that nested_gcc_settle writes into its output: 4 * 256. */
+/* The most bytes of masks that nested_gcc_settle and nested_gcc_session write: 4 * 256. */
 #define NESTED_GCC_MASKS_BYTES 1024u
 
 /*
@@ -121,6 +124,73 @@ uint32_t nested_gcc_close(const uint8_t *book, size_t book_len,
  * mask before it goes deeper, so no book nests more than 8192 of them: 5 MiB suffices for every book.
  */
 uint32_t nested_gcc_settle(const uint8_t *book, size_t book_len, uint8_t *masks, size_t masks_len);
+
+/* The kinds of calls in a session. */
+#define NESTED_GCC_ASSIGN 1u      /* cut the slot to that type */
+#define NESTED_GCC_REMOVE 2u      /* strike that type from the slot */
+#define NESTED_GCC_MARK 3u        /* save the masks */
+#define NESTED_GCC_BACK 4u        /* restore those of the latest mark still open, which is then gone */
+#define NESTED_GCC_SHOW 5u        /* the slot's mask */
+#define NESTED_GCC_UPPER_WALLS 6u /* the number of upper walls of the type */
+#define NESTED_GCC_LOWER_WALLS 7u /* the number of lower walls of the type */
+
+/* The first word of the answer to a call; what the second is. */
+#define NESTED_GCC_CALL_LIVE 0u  /* a decision; how many types were struck from the masks */
+#define NESTED_GCC_CALL_DEAD 1u  /* a decision that no stable list is within; 0 */
+#define NESTED_GCC_CALL_VALUE 2u /* what was asked for */
+#define NESTED_GCC_CALL_DONE 3u  /* a mark or a back; 0 */
+/* Refusals of the one call; 0. */
+#define NESTED_GCC_CALL_KIND (NESTED_GCC_REFUSED + 11u)      /* kind 0 or from 8 up */
+#define NESTED_GCC_CALL_SLOT (NESTED_GCC_REFUSED + 12u)      /* slot n or more */
+#define NESTED_GCC_CALL_TYPE (NESTED_GCC_REFUSED + 13u)      /* type k or more */
+#define NESTED_GCC_NO_OPEN_MARK (NESTED_GCC_REFUSED + 14u)   /* back with no open mark */
+#define NESTED_GCC_WHILE_DEAD (NESTED_GCC_REFUSED + 15u)     /* kind 1, 2 or 3 while dead */
+#define NESTED_GCC_TOO_MANY_MARKS (NESTED_GCC_REFUSED + 16u) /* mark with 256 open */
+
+/* The most bytes of calls that nested_gcc_session takes, 4 * 4096, and of answers that it writes. */
+#define NESTED_GCC_CALLS_BYTES 16384u
+#define NESTED_GCC_ANSWERS_BYTES 32768u
+
+/*
+ * Opens a session on a book and makes the calls in turn. A call is 4 bytes: kind (1 byte), type (1 byte), slot
+ * (2 bytes, little-endian). Fields that its kind does not use are not read: mark and back use neither, show the
+ * slot, the walls the type. For each call two elements of 32 bits are written to answers, those of call i at
+ * elements 2i and 2i + 1. At the end the n masks are written, elements of 32 bits, that of slot s at element s.
+ *
+ * A session has masks, is live or dead, and has up to 256 open marks, each with the masks that it saved. It opens
+ * live with the masks of nested_gcc_settle. If the book is dead it opens dead, every mask is 0, and so is every
+ * number of walls.
+ * - Assign and remove are decisions: they cut the slot's mask. If a stable list (see nested_gcc_settle) lies within
+ *   the cut masks, the largest becomes the masks, and struck is how many ones the masks lost. If there is none the
+ *   session is dead and the masks stay as they were before. So assigning a type that the slot lacks is dead, and
+ *   removing one that it lacks is live with 0 struck.
+ * - A mark saves the masks. A back restores those of the latest open mark, and a dead session is live again.
+ * - Show and the walls change nothing. They read the masks, also while the session is dead.
+ * A refused call changes nothing, and the list goes on. The first of these applies, in this order: 11; 15 for
+ * assign, remove, mark; 12 for assign, remove, show; 13 for assign, remove, walls; 14 for back; 16 for mark.
+ *
+ * Walls of a type stand on corners of the table of nested_gcc_close, with P and B as for nested_gcc_settle.
+ * - An upper corner is a t from 1 with upper(t) = upper(t - 1) and, unless t = n, upper(t + 1) = upper(t) + 1. Its
+ *   slack is upper(t) - B(t).
+ * - A lower corner is a t from 1 with lower(t) = lower(t - 1) + 1 and, unless t = n, lower(t + 1) = lower(t). Its
+ *   slack is P(t) - lower(t).
+ * - A corner has a wall when its slack is above 0 and below that of every later corner of its kind and type.
+ *
+ * NESTED_GCC_LIVE: the session opened live; it may have died on the way. Writes two elements for each call, and
+ *     the last masks.
+ * NESTED_GCC_DEAD: the session opened dead. Writes two elements for each call, and n masks 0.
+ * Refusals: 1 to 8; then 10 if calls_len is no multiple of 4 or above NESTED_GCC_CALLS_BYTES; then 9 if answers has
+ *     fewer than two whole elements a call, or masks fewer than n. Neither output is touched. A list without calls
+ *     is good.
+ * Bytes past the elements written stay as they are. No two of the four buffers may overlap.
+ *
+ * Stack: at most 512 KiB for the deepest nesting of strikes found. As for nested_gcc_settle, each strike that is
+ * nested in another needs some more, and 5 MiB suffices for every book and list.
+ */
+uint32_t nested_gcc_session(const uint8_t *book, size_t book_len,
+                            const uint8_t *calls, size_t calls_len,
+                            uint8_t *answers, size_t answers_len,
+                            uint8_t *masks, size_t masks_len);
 
 #ifdef __cplusplus
 }

@@ -1,2 +1,3 @@
 pub mod CheckLaws
 mod CloseBytesLaws
+mod SessionBytesLaws

@@ -6,15 +6,20 @@
 --                     come back; elements are 16 bits, little-endian, and a trailing byte neither counts nor is written
 --   SettleEntry b M r M′   of book b and the output M as it is lent: r is what settle answers, and M′ is the output as it comes back; masks are
 --                     32 bits, little-endian, and up to three trailing bytes neither count nor are written
+--   SessionEntry b calls A M r A′ M′   of book b, a call list and the outputs A and M as they are lent: r is what session answers, and A′ and M′
+--                     are the outputs as they come back; words and masks are 32 bits, little-endian
+--   SessionOut        an accepted list on a good book, words and masks with just the room for it, and outputs with room for their bytes
 -- Assumes nothing.
+use mathlib.Core.Path.{_≡_}
 use mathlib.Core.List.{List}
-use Prim.Native.Nat.{ℕ, zero, suc, _+_}
+use Prim.Native.Nat.{ℕ, zero, suc, _+_, _*_, _/_, _≤_}
 use lib.ListN.{length}
 use Rattle.book.specs.declared.Limits.{Limits}
 use Rattle.book.specs.Refusal.{refusal}
 use Rattle.elements.specs.Elements.{bytesOf, whole}
 use Rattle.closing.specs.Close.{Closes, closeOf}
 use Rattle.settling.specs.Settle.{Settles, settleOf}
+use Rattle.session.specs.Entry.{sessionOf, SessionRan, SessionReady}
 
 abbrev pub fullLimits : Limits
 fullLimits = record { slots = 256; values = 32; rows = 1024 }
@@ -31,3 +36,12 @@ CloseEntry b L U r L′ U′ = Closes (bytesOf 2) (closeOf fullLimits b (whole 2
 
 abbrev pub SettleEntry : List ℕ → List ℕ → ℕ → List ℕ → Type 0
 SettleEntry b M r M′ = Settles (bytesOf 4) (settleOf fullLimits b (whole 4 (length M))) r M M′
+
+abbrev pub SessionEntry : List ℕ → List ℕ → List ℕ → List ℕ → ℕ → List ℕ → List ℕ → Type 0
+SessionEntry b calls A M r A′ M′ = SessionRan (bytesOf 4) (sessionOf fullLimits b calls (whole 4 (length A)) (whole 4 (length M))) r A M A′ M′
+
+pub record SessionOut (b calls words row answers masks : List ℕ) : Type 0 where
+  pub ready : SessionReady b calls words row
+  pub words-exact : length words ≡ 2 * (length calls / 4)
+  pub answers-in : 4 * length words ≤ length answers
+  pub masks-in : 4 * length row ≤ length masks

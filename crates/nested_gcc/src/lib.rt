@@ -2,6 +2,7 @@
 // premise: each takes every slice of every length, and answers 0 (live; of check: a good book), 1 (dead) or 256 + the number of a refusal.
 // The contracts cite `specs/Entries.antt`.
 mod bytes; // bytes.rt: the entries that write, from bytes to bytes
+mod sessions; // sessions.rt: a session from bytes to bytes
 mod settle; // settle.rt: settling from bytes to bytes
 
 use answer::Answer;
@@ -10,9 +11,10 @@ use book::Limits;
 use book::number;
 use book::read;
 use bytes::close_bytes;
+use sessions::session_bytes;
 use settle::settle_bytes;
 ghost use mathlib.Core.Path.{_≡_};
-ghost use Rattle.nested_gcc.specs.Entries.{checkAnswer, CloseEntry, SettleEntry};
+ghost use Rattle.nested_gcc.specs.Entries.{checkAnswer, CloseEntry, SettleEntry, SessionEntry};
 
 // Whether book is a good book. Writes nothing, and never answers dead.
 #[no_mangle]
@@ -45,4 +47,17 @@ pub extern "C" fn nested_gcc_settle(book: &[u8], masks: &mut [u8]) -> u32
     ensures { λ r. ⌜ SettleEntry (now (book .entry)) (now (masks .entry)) r (now (masks .exit)) ⌝ }
 {
     settle_bytes(book, masks)
+}
+
+// Runs a call list on a session of book: two words a call, and the last masks, 32 bits each.
+#[no_mangle]
+pub extern "C" fn nested_gcc_session(
+    book: &[u8],
+    calls: &[u8],
+    answers: &mut [u8],
+    masks: &mut [u8],
+) -> u32
+    ensures { λ r. ⌜ SessionEntry (now (book .entry)) (now (calls .entry)) (now (answers .entry)) (now (masks .entry)) r (now (answers .exit)) (now (masks .exit)) ⌝ }
+{
+    session_bytes(book, calls, answers, masks)
 }

@@ -6,13 +6,13 @@ use mathlib.Core.Bool.{Bool, true, false, not}
 use mathlib.Core.Logic.{dite}
 use mathlib.Core.List.{List, _++_}
 use Prim.Native.Nat.{ℕ, zero, suc, _+_, _-_, _*_, _^_, _≤_, _<_}
-use native.Mathlib.Nat.{pow-suc, le-refl, one-mul, zero-mul, add-zero}
+use native.Mathlib.Nat.{mul-le-mul-right, pow-suc, le-refl, one-mul, zero-mul, add-zero}
 use native.Mathlib.Numerals.{add-one}
 use native.Mathlib.Decide.{ℕ-discrete}
 use native.Mathlib.Omega.{arith}
 use lib.Dec.{eqb}
 use lib.ListN.{length, getD, set, drop, length-set, List·getD-append}
-use lib.Seq.{drop-set-lt}
+use lib.Seq.{drop-set-lt, drop-at, getD-append-add, getD-drop, getD-set-other}
 use borrow.Author.Tests.{eq-eqb, ne-eqb}
 use Rattle.domains.specs.Counts.{bit}
 use Rattle.domains.specs.Mask.{testBit}
@@ -25,7 +25,7 @@ use Rattle.closing_model.proofs.TableLaws.{closed-lower-staircase, closed-upper
 use Rattle.segments_model.specs.Lines.{Rising}
 use Rattle.filter_model.specs.Mirror.{boundLine}
 use Rattle.filter_model.specs.Rises.{risesOf, TableRises}
-use Rattle.rises.specs.Rises.{grows, riseMask, riseMasks, overRises}
+use Rattle.rises.specs.Rises.{grows, riseMask, riseMasks, overRises, Holds, Marks}
 use Rattle.closing.proofs.FillLaws.{Filled, filled-none, filled-more}
 
 -- ---- grows
@@ -112,6 +112,19 @@ getD-overRises n k l lent t t≤n =
     List·getD-append (riseMasks n k l) (drop (n + 1) lent) 0 t (omega (arith, length-listOf (n + 1) (riseMask n l k)))
     ∙ getD-listOf (n + 1) (riseMask n l k) t 0 (omega arith)
 
+-- the masks of no value are empty
+pub overRises-none : (n : ℕ) (l lent : List ℕ) → listOf (n + 1) (λ t. 0) ++ drop (n + 1) lent ≡ overRises n 0 l lent
+unfolding riseMask
+overRises-none n l lent = refl
+
+-- masks written over masks: only the later ones are seen
+pub overRises-twice : (n k j : ℕ) (l lent : List ℕ) → overRises n k l (overRises n j l lent) ≡ overRises n k l lent
+overRises-twice n k j l lent =
+    ap (λ (rest : List ℕ). riseMasks n k l ++ rest) (drop-at (riseMasks n j l) (drop (n + 1) lent) (n + 1) (length-listOf (n + 1) (riseMask n l j)))
+
+pub rises-over : (n k j : ℕ) (l lent : List ℕ) {s s′ : List ℕ} → s ≡ overRises n j l lent → s′ ≡ overRises n k l s → s′ ≡ overRises n k l lent
+rises-over n k j l lent s-is s′-is = s′-is ∙ ap (λ (x : List ℕ). overRises n k l x) s-is ∙ overRises-twice n k j l lent
+
 -- the masks give back a line that starts at 0 and grows by 0 or 1
 pub staircase-rising : (n k : ℕ) (l lent : List ℕ) (v : ℕ) → v < k → Staircase n (line (λ p. getD l p 0) n v)
     → Rising n v (overRises n k l lent) (line (λ p. getD l p 0) n v)
@@ -131,6 +144,37 @@ closed-rises n k L U lent lent′ closed = record { rises = each }
     each : (kind : Bool) (v : ℕ) → v < k → Rising n v (risesOf kind (overRises n k L lent) (overRises n k U lent′)) (boundLine kind n (view L U) v)
     each true v v<k = staircase-rising n k L lent v v<k (closed-lower-staircase n k (view L U) closed v v<k)
     each false v v<k = staircase-rising n k U lent′ v v<k (closed-upper-staircase n k (view L U) closed v v<k)
+
+-- ---- Holds
+
+-- a table of fewer values
+pub holds-fewer : (n k j : ℕ) (l : List ℕ) → j ≤ k → Holds n k l → Holds n j l
+holds-fewer n k j l j≤k holds =
+    record { values = omega (arith, holds .values); entries = omega (arith, mul-le-mul-right (n + 1) j≤k, holds .entries) }
+
+-- ---- Marks
+
+pub overRises-marks : (n k : ℕ) (l lent : List ℕ) {s : List ℕ} → s ≡ overRises n k l lent → n < length s → Marks n k l s
+overRises-marks n k l lent {s} s-is room =
+    record { long = room; each = λ t t≤n. ap (λ (x : List ℕ). getD x t 0) s-is ∙ getD-overRises n k l lent t t≤n }
+
+-- a place that is not filled is as lent
+filled-rest : (f : ℕ → ℕ) {l : List ℕ} {p : ℕ} {s : List ℕ} → Filled f l p s → getD s p 0 ≡ getD l p 0
+filled-rest f {l} {p} {s} filled =
+    let front : List ℕ = listOf p f in
+    let seam : p ≡ length front + 0 = omega (arith, length-listOf p f) in
+    let start : p + 0 ≡ p = omega arith in
+    ap (λ (x : List ℕ). getD x p 0) (filled .front)
+    ∙ ap (λ (j : ℕ). getD (front ++ drop p l) j 0) seam
+    ∙ getD-append-add front (drop p l) 0 0
+    ∙ getD-drop p l 0 0
+    ∙ ap (λ (j : ℕ). getD l j 0) start
+
+-- the mask at t + 1, where those up to t are written
+pub marks-rest : (f : ℕ → ℕ) (n v : ℕ) (l lent : List ℕ) (t : ℕ) {s : List ℕ} → Marks n v l lent → Filled f (set lent 0 0) (t + 1) s → t < n
+    → getD s (t + 1) 0 ≡ riseMask n l v (t + 1)
+marks-rest f n v l lent t marks filled t<n =
+    filled-rest f filled ∙ getD-set-other lent 0 (t + 1) 0 0 (λ first. omega arith) ∙ marks .each (t + 1) (omega arith)
 
 -- ---- the masks written one by one, that of prefix length 0 before the others
 

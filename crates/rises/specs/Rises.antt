@@ -5,10 +5,12 @@
 --   riseMasks n k l       the masks at the prefix lengths 0 to n
 --   overRises           a list with its front replaced by these
 --   Holds n k l         l has a table of k values and the prefix lengths 0 to n, and a mask has room for the values
+--   Marks n v l s       the first n + 1 masks of s are those of the values below v
 -- Assumes nothing.
 use mathlib.Core.Bool.{Bool, not}
 use mathlib.Core.List.{List, _++_}
-use Prim.Native.Nat.{ℕ, zero, suc, _+_, _-_, _*_, _^_, _≤_}
+use mathlib.Core.Path.{_≡_}
+use Prim.Native.Nat.{ℕ, zero, suc, _+_, _-_, _*_, _^_, _≤_, _<_}
 use lib.Dec.{eqb}
 use lib.ListN.{length, getD, drop}
 use Rattle.domains.specs.Counts.{bit}
@@ -31,3 +33,7 @@ overRises n k l lent = riseMasks n k l ++ drop (n + 1) lent
 pub record Holds (n k : ℕ) (l : List ℕ) : Type 0 where
   pub values : k ≤ 32
   pub entries : size n k ≤ length l
+
+pub record Marks (n v : ℕ) (l s : List ℕ) : Type 0 where
+  pub long : n < length s
+  pub each : (t : ℕ) → t ≤ n → getD s t 0 ≡ riseMask n l v t

@@ -3,34 +3,46 @@
 use domains::with;
 ghost use mathlib.Core.Path.{_≡_};
 ghost use mathlib.Core.Bool.{not};
-ghost use Prim.Native.Nat.{_+_, _*_, _-_, _^_, _≤_, _<_};
+ghost use mathlib.Core.List.{_++_};
+ghost use Prim.Native.Nat.{_+_, _*_, _-_, _^_, _<_};
 ghost use lib.Dec.{eqb};
-ghost use lib.ListN.{length, getD};
+ghost use lib.ListN.{length, getD, drop};
 ghost use Rattle.domains.specs.Counts.{bit};
 ghost use Rattle.domains.specs.Mask.{testBit};
-ghost use Rattle.rises.specs.Rises.{riseMask, overRises, Holds};
+ghost use Rattle.book.specs.Layout.{listOf};
+ghost use Rattle.rises.specs.Rises.{overRises, Holds, Marks};
 
 // Writes the rises of a table of k values and the prefix lengths 0 to n into the front of rises.
 pub fn write_rises(table: &[u16], n: usize, k: usize, rises: &mut [u32])
     requires { ⌜ Holds n k (now table) × (n < length (now rises)) ⌝ }
     ensures { λ r. ⌜ now (rises .exit) ≡ overRises n k (now (table .entry)) (now (rises .entry)) ⌝ }
 {
-    rises[0] = 0;
-    for t in 0..n {
-        rises[t + 1] = rise_mask(table, n, k, t + 1);
+    clear(rises, n);
+    for v in 0..k {
+        note_value(table, n, v, rises);
     }
 }
 
-// The values whose entry at prefix length t differs from the one before it.
-fn rise_mask(table: &[u16], n: usize, k: usize, t: usize) -> u32
-    requires { ⌜ Holds n k (now table) × (0 < t) × (t ≤ n) ⌝ }
-    ensures { λ r. ⌜ r ≡ riseMask n (now (table .entry)) k t ⌝ }
+// Makes the masks up to n empty.
+fn clear(rises: &mut [u32], n: usize)
+    requires { ⌜ n < length (now rises) ⌝ }
+    ensures { λ r. ⌜ now (rises .exit) ≡ listOf (n + 1) (λ t. 0) ++ drop (n + 1) (now (rises .entry)) ⌝ }
 {
-    let mut m = 0;
-    for v in 0..k {
-        m = noted(m, v as u32, differs(table, v * (n + 1) + t));
+    for t in 0..n + 1 {
+        rises[t] = 0;
     }
-    m
+}
+
+// Puts value v into the masks where it rises, beside the values below it.
+fn note_value(table: &[u16], n: usize, v: usize, rises: &mut [u32])
+    requires { ⌜ Holds n (v + 1) (now table) × Marks n v (now table) (now rises) ⌝ }
+    ensures { λ r. ⌜ now (rises .exit) ≡ overRises n (v + 1) (now (table .entry)) (now (rises .entry)) ⌝ }
+{
+    let base = v * (n + 1);
+    rises[0] = 0;
+    for t in 0..n {
+        rises[t + 1] = noted(rises[t + 1], v as u32, differs(table, base + (t + 1)));
+    }
 }
 
 // Whether the entry at place p differs from the one before it.

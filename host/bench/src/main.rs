@@ -1,12 +1,15 @@
 //! Times the proved filter against plain ones, on the same random books in one run:
-//! `cargo run --release -p bench`. It prints ratios of medians; the times beside them are this machine's, at
-//! this moment.
+//! `cargo run --release -p bench`, or with `-- close`, `-- settle` or `-- session` for one of them. It prints ratios
+//! of medians; the times beside them are this machine's, at this moment.
 
 mod bounds;
+mod engine;
 mod in_place;
 mod lanes;
 mod opening;
+mod session;
 
+use std::env;
 use std::time::Instant;
 
 use bounds::Closing;
@@ -137,13 +140,14 @@ fn assert_same(contest: &Contest, books: &[Vec<u8>]) {
     }
 }
 
-fn main() {
+/// Times close and settle, those that are asked for.
+fn run_contests(asked: impl Fn(&str) -> bool) {
     println!("{BOOKS} tight live books of each size; median time of a book in microseconds, and ratios");
     println!(
         "{:14} {:>8} {:>9} {:>7} {:>9} {:>16} {:>13} {:>13}",
         "", "proved", "in place", "lanes", "naive", "proved/in place", "proved/lanes", "proved/naive"
     );
-    for contest in [CLOSE, SETTLE] {
+    for contest in [CLOSE, SETTLE].into_iter().filter(|contest| asked(contest.name)) {
         let mut random = Random::new(0x51ed_270b_9f3a_c84d);
         for (n, k, distance) in SIZES {
             let books: Vec<Vec<u8>> =
@@ -160,6 +164,17 @@ fn main() {
                 proved / naive,
             );
         }
+    }
+}
+
+fn main() {
+    let only = env::args().nth(1);
+    let asked = |name: &str| only.as_ref().is_none_or(|only| only == name);
+    if asked(CLOSE.name) || asked(SETTLE.name) {
+        run_contests(asked);
+    }
+    if asked("session") {
+        session::run();
     }
 }
 

@@ -3,8 +3,10 @@
 //! - [`check`] says whether bytes are a good book, or else the first [`Refusal`].
 //! - [`close`] gives the bounds that follow from the rows of a book, as a [`Table`], or says that it is dead.
 //! - [`settle`] gives the types that each slot may still have, or says that the book is dead.
-//! - [`close_into`] and [`settle_into`] write the same into the caller's bytes.
-//! - [`Book`] writes the bytes of a book.
+//! - [`session`] makes a list of calls on a settled book, assigning and removing types with marks to go back
+//!   to, and gives an [`Answer`] to each call and the last masks.
+//! - [`close_into`], [`settle_into`] and [`session_into`] write the same into the caller's bytes.
+//! - [`Book`] writes the bytes of a book, [`Calls`] those of a list of calls.
 //!
 //! ```
 //! use nested_gcc::{check, close, Book, Refusal};
@@ -22,19 +24,29 @@
 //! ```
 
 mod book;
+mod calls;
 mod refusal;
+mod session;
 mod sys;
 mod table;
 
 pub use book::Book;
-pub use refusal::Refusal;
+pub use calls::Calls;
+pub use refusal::{CallRefusal, Refusal};
+pub use session::{session, session_into, Answer, Session};
 pub use table::Table;
 
 /// The most bytes that [`close_into`] writes into each output: 257 elements of 2 bytes for each of 32 types.
 pub const TABLE_BYTES: usize = 2 * 32 * 257;
 
-/// The most bytes that [`settle_into`] writes: 4 for each of 256 slots.
+/// The most bytes of masks that [`settle_into`] and [`session_into`] write: 4 for each of 256 slots.
 pub const MASKS_BYTES: usize = 4 * 256;
+
+/// The most bytes of calls that [`session`] takes: 4 for each of 4096 calls.
+pub const CALLS_BYTES: usize = 4 * 4096;
+
+/// The most bytes of answers that [`session_into`] writes: two words of 4 bytes for each of 4096 calls.
+pub const ANSWERS_BYTES: usize = 2 * 4 * 4096;
 
 /// Whether a good book is live.
 #[derive(Clone, Copy, Debug, PartialEq, Eq, Hash)]
@@ -169,10 +181,7 @@ pub fn settle(book: &[u8]) -> Result<Option<Vec<u32>>, Refusal> {
     let mut masks = [0; MASKS_BYTES];
     Ok(match settle_into(book, &mut masks)? {
         Verdict::Dead => None,
-        Verdict::Live => {
-            let written = &masks[..4 * slots(book)];
-            Some(written.chunks_exact(4).map(|mask| u32::from_le_bytes(mask.try_into().unwrap())).collect())
-        }
+        Verdict::Live => Some(words(&masks[..4 * slots(book)])),
     })
 }
 
@@ -205,6 +214,11 @@ pub fn settle_into(book: &[u8], masks: &mut [u8]) -> Result<Verdict, Refusal> {
 /// n of a good book, which stands in its bytes 0 and 1.
 fn slots(book: &[u8]) -> usize {
     usize::from(u16::from_le_bytes([book[0], book[1]]))
+}
+
+/// The elements of 32 bits, little-endian.
+fn words(bytes: &[u8]) -> Vec<u32> {
+    bytes.chunks_exact(4).map(|word| u32::from_le_bytes(word.try_into().unwrap())).collect()
 }
 
 /// What `function` answered.

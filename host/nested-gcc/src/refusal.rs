@@ -4,7 +4,8 @@ use std::fmt;
 /// What an exported function adds to a refusal's number.
 const REFUSED: u32 = 256;
 
-/// Why a book, or what was lent with it, is refused.
+/// Why a book, or what was lent with it, is refused. A single call of a session is refused with a
+/// [`CallRefusal`].
 ///
 /// ```
 /// use nested_gcc::Refusal;
@@ -33,10 +34,12 @@ pub enum Refusal {
     RowBound,
     /// 9: a lent output too short.
     OutputTooShort,
+    /// 10: call list not whole calls, or over 16,384 bytes.
+    CallList,
 }
 
 /// Each refusal with its number and its words.
-const TABLE: [(Refusal, u32, &str); 9] = [
+const TABLE: [(Refusal, u32, &str); 10] = [
     (Refusal::TooShort, 1, "book under 12 bytes"),
     (Refusal::OutOfRange, 2, "n, k or r out of range"),
     (Refusal::ReservedByte, 3, "byte 3 not 0"),
@@ -46,6 +49,7 @@ const TABLE: [(Refusal, u32, &str); 9] = [
     (Refusal::RowEnd, 7, "end 0 or above n"),
     (Refusal::RowBound, 8, "lower above 256; upper above 256, not 65535"),
     (Refusal::OutputTooShort, 9, "a lent output too short"),
+    (Refusal::CallList, 10, "call list not whole calls, or over 16,384 bytes"),
 ];
 
 impl Refusal {
@@ -71,3 +75,62 @@ impl fmt::Display for Refusal {
 }
 
 impl Error for Refusal {}
+
+/// Why one call of a session is refused. Such a call changes nothing, and the list goes on.
+///
+/// ```
+/// use nested_gcc::CallRefusal;
+///
+/// assert_eq!(CallRefusal::NoOpenMark.number(), 14);
+/// assert_eq!(CallRefusal::NoOpenMark.to_string(), "back with no open mark");
+/// ```
+#[derive(Clone, Copy, Debug, PartialEq, Eq, Hash)]
+#[non_exhaustive]
+pub enum CallRefusal {
+    /// 11: kind 0 or from 8 up.
+    Kind,
+    /// 12: slot n or more.
+    Slot,
+    /// 13: type k or more.
+    Type,
+    /// 14: back with no open mark.
+    NoOpenMark,
+    /// 15: kind 1, 2 or 3 while dead.
+    WhileDead,
+    /// 16: mark with 256 open.
+    TooManyMarks,
+}
+
+/// Each refusal of a call with its number and its words.
+const CALL_TABLE: [(CallRefusal, u32, &str); 6] = [
+    (CallRefusal::Kind, 11, "kind 0 or from 8 up"),
+    (CallRefusal::Slot, 12, "slot n or more"),
+    (CallRefusal::Type, 13, "type k or more"),
+    (CallRefusal::NoOpenMark, 14, "back with no open mark"),
+    (CallRefusal::WhileDead, 15, "kind 1, 2 or 3 while dead"),
+    (CallRefusal::TooManyMarks, 16, "mark with 256 open"),
+];
+
+impl CallRefusal {
+    /// The refusal that a call's first word gives as 256 + its number.
+    pub(crate) fn from_word(word: u32) -> Option<CallRefusal> {
+        CALL_TABLE.iter().find(|row| REFUSED + row.1 == word).map(|row| row.0)
+    }
+
+    fn row(self) -> &'static (CallRefusal, u32, &'static str) {
+        CALL_TABLE.iter().find(|row| row.0 == self).expect("each refusal has a row")
+    }
+
+    /// The refusal's number, from 11.
+    pub fn number(self) -> u32 {
+        self.row().1
+    }
+}
+
+impl fmt::Display for CallRefusal {
+    fn fmt(&self, f: &mut fmt::Formatter<'_>) -> fmt::Result {
+        f.write_str(self.row().2)
+    }
+}
+
+impl Error for CallRefusal {}

@@ -6,12 +6,16 @@ use std::ffi::c_void;
 use std::fmt::Debug;
 use std::ptr;
 
-use nested_gcc::{check, close_into, settle_into, Book, Refusal, Verdict, MASKS_BYTES, TABLE_BYTES};
+use nested_gcc::{
+    check, close_into, session_into, settle_into, Book, Calls, Refusal, Verdict, ANSWERS_BYTES, MASKS_BYTES,
+    TABLE_BYTES,
+};
 
 // What include/nested_gcc.h promises for each function.
 const CHECK: usize = 4 * 1024;
 const CLOSE: usize = 48 * 1024;
 const SETTLE: usize = 256 * 1024;
+const SESSION: usize = 512 * 1024;
 
 const STACK: usize = 1024 * 1024;
 const PAINT: u8 = 0xa5;
@@ -152,4 +156,42 @@ fn settle_needs_at_most_the_promised_stack() {
     measure(SETTLE, |book| settle_into(book, &mut masks), &books);
     let short = [("an output too short", longest.to_bytes(), Err(Refusal::OutputTooShort))];
     measure(SETTLE, |book| settle_into(book, &mut masks[1..]), &short);
+}
+
+#[test]
+fn session_needs_at_most_the_promised_stack() {
+    let longest = almost_longest().row(31, 256, 8, None);
+    let late_fault = almost_longest().row(31, 256, 257, None);
+    // 32 types with at least 8 each in 256 slots leave no room for a ninth.
+    let dead = almost_longest().row(31, 256, 9, None);
+    // With types 0 and 1 in slot 0 the chain begins where the slot is assigned type 0.
+    let strikes = chains::strikes().mask(0, 3);
+    let fixes = chains::fixes().mask(0, 3);
+    let books = [
+        ("the longest book", longest.to_bytes(), Ok(Verdict::Live)),
+        ("a dead book", dead.to_bytes(), Ok(Verdict::Dead)),
+        ("a chain of strikes", strikes.to_bytes(), Ok(Verdict::Live)),
+        ("a chain of fixes", fixes.to_bytes(), Ok(Verdict::Live)),
+        ("a chain of strikes at the opening", chains::strikes().to_bytes(), Ok(Verdict::Live)),
+        ("a fault in the last row", late_fault.to_bytes(), Err(Refusal::RowBound)),
+        ("the shortest book", Book::new(1, 1).to_bytes(), Ok(Verdict::Live)),
+        ("no bytes", Vec::new(), Err(Refusal::TooShort)),
+    ];
+    // The chains are begun and taken back; then as many marks as there may be, each with a decision, and a back
+    // for each with each kind of question.
+    let mut calls = Calls::new();
+    for _ in 0..256 {
+        calls.mark().assign(0, 0).back();
+    }
+    for slot in 0..256 {
+        calls.mark().remove(slot, 31);
+    }
+    for _ in 0..256 {
+        calls.back().show(0).upper_walls(0).lower_walls(0);
+    }
+    let mut answers = vec![0; ANSWERS_BYTES];
+    let mut masks = [0; MASKS_BYTES];
+    measure(SESSION, |book| session_into(book, calls.as_bytes(), &mut answers, &mut masks), &books);
+    let short = [("an output too short", longest.to_bytes(), Err(Refusal::OutputTooShort))];
+    measure(SESSION, |book| session_into(book, calls.as_bytes(), &mut answers, &mut masks[1..]), &short);
 }

@@ -6,11 +6,14 @@
 //! - [`start`]: the starting table of a book.
 //! - [`close`]: the loosest closed table, or dead.
 //! - [`settle`]: the largest stable list, or dead.
+//! - [`Machine`]: the plain machine of sessions, call by call.
 
 mod book;
 mod closing;
+mod machine;
 mod settling;
 
 pub use book::{refusal, Book, Row};
 pub use closing::{close, start, Closing, Table};
+pub use machine::{Machine, Walls};
 pub use settling::{settle, Death, Settling};

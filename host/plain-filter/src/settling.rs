@@ -38,6 +38,14 @@ pub fn settle(book: &Book) -> Settling {
     settling
 }
 
+/// The largest stable list within the masks, with the bounds of the closed table; `None` if there is none.
+pub fn largest_stable(table: &Table, masks: &[u32]) -> Option<Vec<u32>> {
+    let mut settling = Settling { masks: Ok(Vec::new()), fixes: 0, strikes: 0, passes: 0 };
+    let mut masks = masks.to_vec();
+    let settled = !masks.contains(&0) && settle_within(table, &mut masks, &mut settling).is_ok();
+    settled.then_some(masks)
+}
+
 fn settle_within(table: &Table, masks: &mut [u32], settling: &mut Settling) -> Result<(), Death> {
     loop {
         settling.passes += 1;

@@ -1,12 +1,12 @@
 //! The bundled books: those of document 01's worked table, M1 to M8; M4 with only type 0 in its first two
 //! slots; and one bad book for each refusal number, after the table's example. Where the worked table names
-//! no masks, each slot may have each type.
+//! no masks, each slot may have each type. And M8's run: its book and its calls.
 
-use nested_gcc::Book;
+use nested_gcc::{Book, Calls};
 
-/// A bundled book.
+/// A bundled file.
 pub struct Sample {
-    /// Its file in data/books, without `.bin`.
+    /// Its name, without `.bin`.
     pub name: &'static str,
     pub bytes: Vec<u8>,
 }
@@ -41,7 +41,7 @@ fn m8_with_byte(at: usize, value: u8) -> Vec<u8> {
     bytes
 }
 
-/// Every bundled book.
+/// Every bundled book, for data/books.
 pub fn samples() -> Vec<Sample> {
     let m7 = Book::new(4, 4).mask(0, 3).mask(1, 3).mask(2, 3).mask(3, 12);
     let m7 = m7.row(0, 4, 0, Some(1)).row(1, 4, 0, Some(1));
@@ -65,4 +65,13 @@ pub fn samples() -> Vec<Sample> {
         ("bad_8_lower_257", m8_with(ROW_LOWER, 257)),
     ];
     books.map(|(name, bytes)| Sample { name, bytes }).into()
+}
+
+/// M8's book and calls, for data/M8.
+pub fn m8_run() -> Vec<Sample> {
+    let mut calls = Calls::new();
+    calls.mark().assign(0, 1).upper_walls(1).back().upper_walls(1);
+    calls.remove(1, 0).show(0).assign(0, 1).assign(2, 0);
+    let (book, calls) = (m8().to_bytes(), calls.as_bytes().to_vec());
+    vec![Sample { name: "book", bytes: book }, Sample { name: "calls", bytes: calls }]
 }

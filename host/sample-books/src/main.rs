@@ -1,5 +1,5 @@
-//! Writes the bundled books into the folder named as the argument, each as NAME.bin:
-//! `cargo run -p sample-books -- ../data/books`.
+//! Writes the bundled files into the folder named as the argument, each as NAME.bin: the books into its folder
+//! books, M8's book and calls into its folder M8. `cargo run -p sample-books -- ../data`.
 
 use std::path::PathBuf;
 use std::{env, fs, process};
@@ -9,11 +9,13 @@ fn main() {
         eprintln!("usage: sample-books FOLDER");
         process::exit(2);
     };
-    for sample in sample_books::samples() {
-        let file = folder.join(sample.name).with_extension("bin");
-        if let Err(error) = fs::write(&file, &sample.bytes) {
-            eprintln!("{}: {error}", file.display());
-            process::exit(1);
+    for (inner, samples) in [("books", sample_books::samples()), ("M8", sample_books::m8_run())] {
+        for sample in samples {
+            let file = folder.join(inner).join(sample.name).with_extension("bin");
+            if let Err(error) = fs::write(&file, &sample.bytes) {
+                eprintln!("{}: {error}", file.display());
+                process::exit(1);
+            }
         }
     }
 }

@@ -1,4 +1,4 @@
-//! The files of data/books are the generator's, and are what their names say.
+//! The files of data are the generator's, and are what their names say.
 
 use std::collections::BTreeMap;
 use std::fs;
@@ -6,10 +6,15 @@ use std::path::Path;
 
 /// The files of data/books: each name, without `.bin`, with its bytes.
 fn bundled() -> BTreeMap<String, Vec<u8>> {
-    let folder = Path::new(env!("CARGO_MANIFEST_DIR")).join("../../data/books");
+    files("books")
+}
+
+/// The files of a folder in data.
+fn files(folder: &str) -> BTreeMap<String, Vec<u8>> {
+    let folder = Path::new(env!("CARGO_MANIFEST_DIR")).join("../../data").join(folder);
     let mut files = BTreeMap::new();
-    for entry in fs::read_dir(&folder).expect("data/books can be listed") {
-        let path = entry.expect("data/books can be listed").path();
+    for entry in fs::read_dir(&folder).expect("the folder can be listed") {
+        let path = entry.expect("the folder can be listed").path();
         let name = path.file_name().unwrap().to_str().unwrap();
         let name = name.strip_suffix(".bin").expect("each file is a .bin");
         files.insert(name.to_string(), fs::read(&path).expect("each file can be read"));
@@ -19,9 +24,10 @@ fn bundled() -> BTreeMap<String, Vec<u8>> {
 
 #[test]
 fn files_are_the_generators() {
-    let made = sample_books::samples().into_iter();
-    let made: BTreeMap<_, _> = made.map(|s| (s.name.to_string(), s.bytes)).collect();
-    assert!(bundled() == made, "write them anew: cargo run -p sample-books -- ../data/books");
+    for (folder, made) in [("books", sample_books::samples()), ("M8", sample_books::m8_run())] {
+        let made: BTreeMap<_, _> = made.into_iter().map(|s| (s.name.to_string(), s.bytes)).collect();
+        assert!(files(folder) == made, "write them anew: cargo run -p sample-books -- ../data");
+    }
 }
 
 /// The good books typed byte by byte: n, k, 0, r, masks at, rows at, length; then the masks; then
@@ -99,4 +105,24 @@ fn files_are_what_their_names_say() {
         numbers.push(number);
     }
     assert_eq!(numbers, [0, 0, 0, 0, 0, 0, 0, 0, 0, 1, 2, 3, 4, 5, 6, 7, 8]);
+}
+
+/// M8's run typed byte by byte: the book of data/books; for each call kind, type, slot.
+#[test]
+fn m8_run_has_these_bytes() {
+    let files = files("M8");
+    let calls = [
+        3, 0, 0, 0, // mark
+        1, 1, 0, 0, // assign slot 0 type 1
+        6, 1, 0, 0, // kind 6 type 1
+        4, 0, 0, 0, // back
+        6, 1, 0, 0, // kind 6 type 1
+        2, 0, 1, 0, // remove type 0 from slot 1
+        5, 0, 0, 0, // show 0
+        1, 1, 0, 0, // assign slot 0 type 1
+        1, 0, 2, 0, // assign slot 2 type 0
+    ];
+    assert_eq!(files["book"], bundled()["M8"]);
+    assert_eq!(files["calls"], calls);
+    assert_eq!(files.len(), 2);
 }

@@ -1,0 +1,72 @@
+-- What a call does to the slices and the session, and its two words, by the plain machine.
+--   Answered R out St ..   the machine's state out .0 is represented, the words are those of its reply out .1, and the standing is St
+--   Acts ..                so it is for the call c, whatever state of whatever machine the slices stood for, where no number refuses c
+--   Steps ..               the same for any call: refused, or done
+--   Deciding, Marking, Backing, Counting   what the calls need that no number refuses
+--   Performing             the slices stand for a state on which no number refuses the call c
+--   Refuses ..             r is the number that refuses the call c, or 0, on any machine's state with this flag and so many saved lists
+-- Assumes nothing.
+use mathlib.Core.Path.{_≡_}
+use mathlib.Core.List.{List}
+use mathlib.Core.Bool.{Bool}
+use mathlib.Core.Option.{none}
+use Prim.Native.Nat.{ℕ, _+_, _*_, _≤_, _<_}
+use lib.ListN.{length}
+use Rattle.session_model.specs.Calls as Calls
+use Rattle.session_model.specs.Machine.{act, step}
+use Rattle.session_model.specs.Refusal.{refusal}
+use Rattle.session_model.specs.Standing as Model
+use Rattle.session_model.specs.State.{Rules, State, Reply, words}
+use Rattle.session.specs.Given.{standingOf, refusalNumber}
+use Rattle.session.specs.Represents.{Represents, Running}
+use Rattle.session.specs.declared.Session.{Session}
+use Rattle.session.specs.declared.Standing.the-variants.{Live}
+use Rattle.session.specs.declared.Stepped.{Stepped}
+
+pub record Answered (R : Rules) (out : State × Reply) (St : Model.Standing) (masks cells trail heights L U : List ℕ) (n k : ℕ) (r : Stepped)
+    : Type 0 where
+  pub represents : Represents R (out .0) masks cells trail heights L U n k (r .session)
+  pub first : r .first ≡ words (out .1) .0
+  pub second : r .second ≡ words (out .1) .1
+  pub standing : standingOf (r .session .standing) ≡ St
+
+pub record Acts (L U : List ℕ) (n k i : ℕ) (c : Calls.Call) (session : Session) (masks cells trail heights masks′ cells′ trail′ heights′ : List ℕ)
+    (r : Stepped) : Type 0 where
+  pub does : (R : Rules) (S : State) → Represents R S masks cells trail heights L U n k session
+      → Answered R (act R S c) (Model.stand (standingOf (session .standing)) i c (act R S c .1)) masks′ cells′ trail′ heights′ L U n k r
+
+pub record Steps (L U : List ℕ) (n k i : ℕ) (c : Calls.Call) (session : Session) (masks cells trail heights masks′ cells′ trail′ heights′ : List ℕ)
+    (r : Stepped) : Type 0 where
+  pub does : (R : Rules) (S : State) → Represents R S masks cells trail heights L U n k session
+      → Answered R (step R S c) (Model.stand (standingOf (session .standing)) i c (step R S c .1)) masks′ cells′ trail′ heights′ L U n k r
+
+pub record Deciding (masks cells trail heights L U : List ℕ) (n k : ℕ) (session : Session) (slot v : ℕ) : Type 0 where
+  pub running : Running masks cells trail heights L U n k session
+  pub live : session .standing ≡ Live
+  pub slot-in : slot < n
+  pub value-in : v < k
+
+pub record Marking (heights : List ℕ) (session : Session) : Type 0 where
+  pub live : session .standing ≡ Live
+  pub free : session .marks < length heights
+  pub fits : session .top < 65536
+
+pub record Backing (masks cells trail heights L U : List ℕ) (n k : ℕ) (session : Session) : Type 0 where
+  pub running : Running masks cells trail heights L U n k session
+  pub marked : 0 < session .marks
+
+pub record Counting (cells : List ℕ) (n k v : ℕ) : Type 0 where
+  pub rows : (k + k) * (n + 1) ≤ length cells
+  pub slots-fit : n ≤ 2048
+  pub values-fit : k ≤ 32
+  pub value-in : v < k
+
+-- ---- any call
+pub record Performing (masks cells trail heights L U : List ℕ) (n k : ℕ) (session : Session) (c : Calls.Call) : Type 0 where
+  pub running : Running masks cells trail heights L U n k session
+  pub accepted : (R : Rules) (S : State) → Represents R S masks cells trail heights L U n k session → refusal R S c ≡ none
+
+-- ---- refusals
+pub record Refuses (n k limit marks : ℕ) (dead : Bool) (c : Calls.Call) (r : ℕ) : Type 0 where
+  pub says : (R : Rules) (S : State) → R .slots ≡ n → R .values ≡ k → R .limit ≡ limit → S .dead ≡ dead → length (S .saved) ≡ marks
+      → r ≡ refusalNumber (refusal R S c)

@@ -1,0 +1,63 @@
+-- From a book to a session, and the run of a whole list of calls from the fresh opening: demand 3 of document 01 as one claim.
+--   openedRules b limit, openedState b limit   the plain machine of the book at its opening
+--   opensLive settled    the book opens live
+--   Openable             room for the state of a good book
+--   Opens b .. r         the slices and the session r stand for the machine at its opening
+--   BookRunnable         room for a book's run
+--   BookRan b calls ..   after the list the slices stand for the machine's last state: the masks are the machine's, and the cells mirror the closed
+--                        table and these masks, so that the walls standing are those of the formula; the answers are the machine's words; the
+--                        standing is the machine's; and of this machine demand 3 holds, for a book that opens live and for one that opens dead
+-- Assumes nothing.
+use mathlib.Core.Path.{_≡_}
+use mathlib.Core.Bool.{Bool, true, false}
+use mathlib.Core.List.{List}
+use mathlib.Core.Option.{Option, none, some}
+use Prim.Native.Nat.{ℕ, _*_, _/_, _≤_, _<_}
+use lib.ListN.{length}
+use Rattle.book.specs.Layout as Layout
+use Rattle.closing.specs.Close.{overlay}
+use Rattle.settling_model.specs.Book.{settledBook}
+use Rattle.settling.specs.State.{StateRoom}
+use Rattle.session_model.specs.BookRun.{rulesOf, stateAfter, repliesOf, standingAfter}
+use Rattle.session_model.specs.Calls.{callsOf}
+use Rattle.session_model.specs.Demand.{Demand3, DeadOpening}
+use Rattle.session_model.specs.Machine.{opened}
+use Rattle.session_model.specs.Standing.{opening}
+use Rattle.session_model.specs.State.{Rules, State, wordsOf}
+use Rattle.session.specs.Given.{standingOf}
+use Rattle.session.specs.Represents.{Represents}
+use Rattle.session.specs.declared.Ended.{Ended}
+use Rattle.session.specs.declared.Session.{Session}
+
+abbrev pub openedRules : List ℕ → ℕ → Rules
+openedRules b limit = opened (rulesOf b limit) (rulesOf b limit .settle (Layout.masks b)) .0
+
+abbrev pub openedState : List ℕ → ℕ → State
+openedState b limit = opened (rulesOf b limit) (rulesOf b limit .settle (Layout.masks b)) .1
+
+abbrev pub opensLive : Option (List ℕ) → Bool
+opensLive none = false
+opensLive (some M) = true
+
+pub record Openable (b masks cells trail L U : List ℕ) : Type 0 where
+  pub state : StateRoom b masks cells trail L U
+  pub heights-fit : length trail < 65536
+
+pub record Opens (b masks cells trail L U : List ℕ) (r : Session) : Type 0 where
+  pub represents : (heights : List ℕ) → Represents (openedRules b (length heights)) (openedState b (length heights)) masks cells trail heights L U
+      (Layout.slots b) (Layout.values b) r
+  pub standing : standingOf (r .standing) ≡ opening (settledBook b)
+
+pub record BookRunnable (b calls answers masks cells trail L U : List ℕ) : Type 0 where
+  pub openable : Openable b masks cells trail L U
+  -- two words a call
+  pub room : 2 * (length calls / 4) ≤ length answers
+
+pub record BookRan (b calls : List ℕ) (limit : ℕ) (answers answers′ masks cells trail heights L U : List ℕ) (r : Ended) : Type 0 where
+  pub live : r .live ≡ opensLive (settledBook b)
+  pub represents : Represents (openedRules b limit) (stateAfter b limit (callsOf calls)) masks cells trail heights L U (Layout.slots b) (Layout.values b)
+      (r .session)
+  pub words : answers′ ≡ overlay (wordsOf (repliesOf b limit (callsOf calls))) answers
+  pub standing : standingOf (r .session .standing) ≡ standingAfter b limit (callsOf calls)
+  pub demand : (M : List ℕ) → settledBook b ≡ some M → Demand3 b limit (callsOf calls)
+  pub opened-dead : settledBook b ≡ none → DeadOpening b limit (callsOf calls)

@@ -1,0 +1,34 @@
+-- What the run of a whole list of calls does: the claim of document 01's demand 3 on the engine.
+--   RanTo R out St ..   the machine's last state out .0 is represented, the answers are the words of its replies out .1 and then what was there, and
+--                       the standing is St
+--   Runs ..             so it is for the list of calls, run from whatever state of whatever machine the slices stood for
+-- Assumes nothing.
+use mathlib.Core.Path.{_≡_}
+use mathlib.Core.List.{List}
+use Prim.Native.Nat.{ℕ, _*_, _/_, _≤_}
+use lib.ListN.{length}
+use Rattle.closing.specs.Close.{overlay}
+use Rattle.session_model.specs.Calls.{Call}
+use Rattle.session_model.specs.Machine.{runs}
+use Rattle.session_model.specs.Standing as Model
+use Rattle.session_model.specs.State.{Rules, State, Reply, wordsOf}
+use Rattle.session.specs.Given.{standingOf}
+use Rattle.session.specs.Represents.{Represents, Running}
+use Rattle.session.specs.declared.Session.{Session}
+
+pub record RanTo (R : Rules) (out : State × List Reply) (St : Model.Standing) (masks cells trail heights L U : List ℕ) (n k : ℕ)
+    (session : Session) (answers answers′ : List ℕ) : Type 0 where
+  pub represents : Represents R (out .0) masks cells trail heights L U n k session
+  pub words : answers′ ≡ overlay (wordsOf (out .1)) answers
+  pub standing : standingOf (session .standing) ≡ St
+
+pub record Runs (L U : List ℕ) (n k : ℕ) (calls : List Call) (session : Session) (masks cells trail heights answers : List ℕ) (session′ : Session)
+    (masks′ cells′ trail′ heights′ answers′ : List ℕ) : Type 0 where
+  pub does : (R : Rules) (S : State) → Represents R S masks cells trail heights L U n k session
+      → RanTo R (runs R S calls) (Model.standFrom (standingOf (session .standing)) 0 calls (runs R S calls .1)) masks′ cells′ trail′ heights′ L U n k
+      session′ answers answers′
+
+pub record Runnable (calls answers masks cells trail heights L U : List ℕ) (n k : ℕ) (session : Session) : Type 0 where
+  pub running : Running masks cells trail heights L U n k session
+  -- two words a call
+  pub room : 2 * (length calls / 4) ≤ length answers
