@@ -1,0 +1,64 @@
+// The four entries at document 01's limits, typed, for callers written in Rattle. No entry has a premise: every slice of every length gets an
+// answer. The contracts cite the definitions of the entries with limits, at nested_gcc's `fullLimits`.
+use answer::Answer;
+use book::Limits;
+use book::Verdict;
+ghost use mathlib.Core.Path.{_≡_};
+ghost use lib.ListN.{length};
+ghost use Rattle.answer.specs.Answer.{wordOf};
+ghost use Rattle.book.specs.Refusal.{refusal, numberOf};
+ghost use Rattle.closing.specs.Close.{Closes, closeOf};
+ghost use Rattle.settling.specs.Settle.{Settles, settleOf};
+ghost use Rattle.session.specs.Entry.{SessionRan, sessionOf};
+ghost use Rattle.nested_gcc.specs.Entries.{fullLimits};
+
+// Whether book is a good book, or why not.
+pub fn check(book: &[u8]) -> Verdict
+    ensures { λ r. ⌜ numberOf r ≡ refusal fullLimits (now (book .entry)) ⌝ }
+{
+    let limits = Limits {
+        slots: 256,
+        values: 32,
+        rows: 1024,
+    };
+    book::read(book, limits)
+}
+
+// Closes the table of book into the fronts of lowers and uppers, value by value.
+pub fn close(book: &[u8], lowers: &mut [u16], uppers: &mut [u16]) -> Answer
+    ensures { λ r. ⌜ Closes (λ xs. xs) (closeOf fullLimits (now (book .entry)) (length (now (lowers .entry))) (length (now (uppers .entry)))) (wordOf r)
+        (now (lowers .entry)) (now (uppers .entry)) (now (lowers .exit)) (now (uppers .exit)) ⌝ }
+{
+    let limits = Limits {
+        slots: 256,
+        values: 32,
+        rows: 1024,
+    };
+    closing::close(book, limits, lowers, uppers)
+}
+
+// Settles the masks of book into the front of masks.
+pub fn settle(book: &[u8], masks: &mut [u32]) -> Answer
+    ensures { λ r. ⌜ Settles (λ xs. xs) (settleOf fullLimits (now (book .entry)) (length (now (masks .entry)))) (wordOf r) (now (masks .entry)) (now (masks .exit)) ⌝ }
+{
+    let limits = Limits {
+        slots: 256,
+        values: 32,
+        rows: 1024,
+    };
+    settling::settle(book, limits, masks)
+}
+
+// Runs the call list on a session of book: two words a call into the front of answers, the last masks into the front of masks.
+pub fn session(book: &[u8], calls: &[u8], answers: &mut [u32], masks: &mut [u32]) -> Answer
+    ensures { λ r. ⌜ SessionRan (λ xs. xs)
+        (sessionOf fullLimits (now (book .entry)) (now (calls .entry)) (length (now (answers .entry))) (length (now (masks .entry)))) (wordOf r)
+        (now (answers .entry)) (now (masks .entry)) (now (answers .exit)) (now (masks .exit)) ⌝ }
+{
+    let limits = Limits {
+        slots: 256,
+        values: 32,
+        rows: 1024,
+    };
+    session::run_session(book, limits, calls, answers, masks)
+}
