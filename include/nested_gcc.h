@@ -27,8 +27,8 @@
  *   thread may use it meanwhile.
  * - Lengths are in bytes. An output's elements stand little-endian and need no alignment; a trailing part
  *   of an element neither counts nor is written.
- * - The stack that a call needs at most is told for each function. The need is measured by
- *   host/nested-gcc/tests/stack.rs, which fails above that.
+ * - The stack that a call needs is told for each function. It is measured, not proved: by
+ *   host/nested-gcc/tests/stack.rs, which fails above the figure named there.
  */
 #ifndef NESTED_GCC_H
 #define NESTED_GCC_H
@@ -119,8 +119,8 @@ uint32_t nested_gcc_close(const uint8_t *book, size_t book_len,
  *     is not touched.
  * Bytes past the n elements stay as they are.
  *
- * Stack: 86 KiB, and up to 512 bytes for each strike that is nested in another. The deepest nesting found, a
- * chain of 255 strikes, needs 152 KiB in all; 256 KiB is what the test holds. A strike takes a type out of a
+ * Stack: 86 KiB, and up to 560 bytes for each strike that is nested in another. The deepest nesting found, a
+ * chain of 255 fixes, needs 223 KiB in all; 256 KiB is what the test holds. A strike takes a type out of a
  * mask before it goes deeper, so no book nests more than 8192 of them: 5 MiB suffices for every book.
  */
 uint32_t nested_gcc_settle(const uint8_t *book, size_t book_len, uint8_t *masks, size_t masks_len);
@@ -184,8 +184,9 @@ uint32_t nested_gcc_settle(const uint8_t *book, size_t book_len, uint8_t *masks,
  *     is good.
  * Bytes past the elements written stay as they are. No two of the four buffers may overlap.
  *
- * Stack: at most 512 KiB for the deepest nesting of strikes found. As for nested_gcc_settle, each strike that is
- * nested in another needs some more, and 5 MiB suffices for every book and list.
+ * Stack: 117 KiB, and as for nested_gcc_settle up to 560 bytes for each strike that is nested in another. The
+ * deepest nesting found needs 224 KiB in all; 512 KiB is what the test holds, and 5 MiB suffices for every book
+ * and list.
  */
 uint32_t nested_gcc_session(const uint8_t *book, size_t book_len,
                             const uint8_t *calls, size_t calls_len,
