@@ -1,9 +1,9 @@
--- Sessions computed from the bytes of the book and of the calls, their words and last masks typed in (`worked`): M8, from document 01; and,
--- by hand from its rules, lower walls, the numbers 11 to 16, a dead opening, and a wall that a later corner without slack forbids. Both theorems
--- have instances here. No contract cites this file. Assumes nothing.
+-- Sessions computed from the bytes of the book and of the calls, their words and last masks typed in (`worked`), by hand from document 01's rules:
+-- walls of both kinds, the numbers 11 to 16, a dead opening, and a wall that a later corner without slack forbids. A book that opens dead is an
+-- instance of `dead-opening`. No contract cites this file. Assumes nothing.
 use mathlib.Core.Path.{_≡_, refl}
 use mathlib.Core.List.{List, [], _∷_}
-use mathlib.Core.Option.{none, some, bind, Option·elim}
+use mathlib.Core.Option.{none, bind, Option·elim}
 use Prim.Native.Nat.{ℕ}
 use lib.Count.{ones}
 use Rattle.domains.specs.Mask.{testBit, clearBit}
@@ -24,33 +24,22 @@ use Rattle.session_model.specs.State.{wordsOf}
 use Rattle.session_model.specs.Refusal.{first, refusal}
 use Rattle.session_model.specs.Machine.{decided, restored, act, stepBy, step, runs, opened, run}
 use Rattle.session_model.specs.BookRun.{runBook}
-use Rattle.session_model.specs.Demand.{Demand3, DeadOpening}
-use Rattle.session_model.proofs.DemandLaws.{demand3}
+use Rattle.session_model.specs.Demand.{DeadOpening}
 use Rattle.session_model.proofs.DeadOpeningLaws.{dead-opening}
 
--- n = 3, k = 2, masks 3 3 3, one row: type 0, end 2, lower 1, no upper
+-- document 01's M8: n = 3, k = 2, masks 3 3 3, one row: type 0, end 2, lower 1, no upper
 abbrev m8 : List ℕ
 m8 =
     3 ∷ 0 ∷ 2 ∷ 0 ∷ 1 ∷ 0 ∷ 12 ∷ 0 ∷ 24 ∷ 0 ∷ 32 ∷ 0 ∷
     3 ∷ 0 ∷ 0 ∷ 0 ∷ 3 ∷ 0 ∷ 0 ∷ 0 ∷ 3 ∷ 0 ∷ 0 ∷ 0 ∷
     0 ∷ 0 ∷ 2 ∷ 0 ∷ 1 ∷ 0 ∷ 255 ∷ 255 ∷ []
 
-abbrev m8Calls : List ℕ
-m8Calls =
-    3 ∷ 0 ∷ 0 ∷ 0 ∷
-    1 ∷ 1 ∷ 0 ∷ 0 ∷
-    6 ∷ 1 ∷ 0 ∷ 0 ∷
-    4 ∷ 0 ∷ 0 ∷ 0 ∷
-    6 ∷ 1 ∷ 0 ∷ 0 ∷
-    2 ∷ 0 ∷ 1 ∷ 0 ∷
-    5 ∷ 0 ∷ 0 ∷ 0 ∷
-    1 ∷ 1 ∷ 0 ∷ 0 ∷
-    1 ∷ 0 ∷ 2 ∷ 0 ∷ []
-
--- kind 7 of type 0, whose lower corner is at 2: as the book opens, with slot 0 assigned type 1 after a mark, and after the back
-abbrev lowerCalls : List ℕ
-lowerCalls =
+-- kind 7 of type 0, whose lower corner is at 2: as the book opens, with slot 0 assigned type 1 after a mark, and after the back; and kind 6 of
+-- type 0, whose uppers have no corner, as the book opens
+abbrev wallCalls : List ℕ
+wallCalls =
     7 ∷ 0 ∷ 0 ∷ 0 ∷
+    6 ∷ 0 ∷ 0 ∷ 0 ∷
     3 ∷ 0 ∷ 0 ∷ 0 ∷
     1 ∷ 1 ∷ 0 ∷ 0 ∷
     7 ∷ 0 ∷ 0 ∷ 0 ∷
@@ -123,25 +112,17 @@ laterSpent =
 abbrev says : List ℕ → ℕ → List ℕ → List ℕ × List ℕ
 says b limit bytes = let r = runBook b limit (callsOf bytes) in (wordsOf (r .1), r .0 .masks)
 
-worked : (says m8 256 m8Calls ≡ (3 ∷ 0 ∷ 0 ∷ 2 ∷ 2 ∷ 0 ∷ 3 ∷ 0 ∷ 2 ∷ 1 ∷ 0 ∷ 2 ∷ 2 ∷ 1 ∷ 1 ∷ 0 ∷ 271 ∷ 0 ∷ [], 1 ∷ 2 ∷ 3 ∷ []))
-    × (says m8 256 lowerCalls ≡ (2 ∷ 1 ∷ 3 ∷ 0 ∷ 0 ∷ 2 ∷ 2 ∷ 0 ∷ 3 ∷ 0 ∷ 2 ∷ 1 ∷ [], 3 ∷ 3 ∷ 3 ∷ []))
+worked : (says m8 256 wallCalls ≡ (2 ∷ 1 ∷ 2 ∷ 0 ∷ 3 ∷ 0 ∷ 0 ∷ 2 ∷ 2 ∷ 0 ∷ 3 ∷ 0 ∷ 2 ∷ 1 ∷ [], 3 ∷ 3 ∷ 3 ∷ []))
     × (says m8 1 refusedCalls ≡ (refusedWords, 1 ∷ 3 ∷ 3 ∷ []))
     × (says tooMany 256 shutCalls ≡ (2 ∷ 0 ∷ 271 ∷ 0 ∷ 270 ∷ 0 ∷ 2 ∷ 0 ∷ 271 ∷ 0 ∷ 269 ∷ 0 ∷ [], 0 ∷ 0 ∷ []))
     × (says laterSpent 256 (6 ∷ 0 ∷ 0 ∷ 0 ∷ []) ≡ (2 ∷ 0 ∷ [], 2 ∷ 2 ∷ 1 ∷ 1 ∷ []))
 unfolding bind Option·elim ones total testBit clearBit count only listOf others lowOf highOf startLowers startUppers newLower newUpper stepLowers stepUppers crossed same closingWithin listSum closing lineBounds tableBounds fixTo strikeUnfixed mapBefore cutIf cutLow cutHigh pass passes fixpoint noneEmpty noneBroken settling standsAt keepOnly cut callOf wordsOf first refusal decided restored act stepBy step runs opened run
-worked = (refl, refl, refl, refl, refl)
+worked = (refl, refl, refl, refl)
 
--- ---- the theorems have instances: M8 opens live, the other book dead
-m8-settles : settledBook m8 ≡ some (3 ∷ 3 ∷ 3 ∷ [])
-unfolding bind testBit clearBit count only listOf others lowOf highOf startLowers startUppers newLower newUpper stepLowers stepUppers crossed same closingWithin listSum closing lineBounds tableBounds fixTo strikeUnfixed mapBefore cutIf cutLow cutHigh pass passes fixpoint noneEmpty noneBroken settling settledBook
-m8-settles = refl
-
+-- ---- a dead opening
 tooMany-dies : settledBook tooMany ≡ none
 unfolding bind testBit clearBit count only listOf others lowOf highOf startLowers startUppers newLower newUpper stepLowers stepUppers crossed same closingWithin listSum closing lineBounds tableBounds fixTo strikeUnfixed mapBefore cutIf cutLow cutHigh pass passes fixpoint noneEmpty noneBroken settling settledBook
 tooMany-dies = refl
-
-m8-demand3 : (calls : List Call) → Demand3 m8 256 calls
-m8-demand3 = demand3 m8 256 (3 ∷ 3 ∷ 3 ∷ []) m8-settles
 
 tooMany-dead-opening : (calls : List Call) → DeadOpening tooMany 256 calls
 tooMany-dead-opening = dead-opening tooMany 256 tooMany-dies

@@ -1,14 +1,11 @@
--- Settling on books of document 01's worked table, computed from their bytes (`worked`), and that M7 has no plan though it settles
--- (`m7-no-plan`). A side that a row does not name is lower 0 or upper 65535. Assumes nothing.
+-- Settling on small books, computed from their bytes (`worked`), with answers from document 01's rules by hand. The rows are those of its worked
+-- table's M4, M7 and M8, the masks are others. A side that a row does not name is lower 0 or upper 65535. Assumes nothing.
 use mathlib.Core.Path.{_≡_, refl}
 use mathlib.Core.List.{List, [], _∷_, _++_}
 use mathlib.Core.Option.{some, none, bind}
-use Prim.Native.Nat.{ℕ, zero, suc, _+_, _*_}
-use native.Mathlib.Omega.{arith}
-use lib.ListN.{getD}
-use Rattle.domains.specs.Mask.{testBit, clearBit, Has}
+use Prim.Native.Nat.{ℕ, _+_, _*_}
+use Rattle.domains.specs.Mask.{testBit, clearBit}
 use Rattle.domains.specs.Counts.{count, only}
-use Rattle.domains.proofs.MaskLaws.{testBit-high}
 use Rattle.book.specs.Layout.{listOf}
 use Rattle.closing_model.specs.Table.{others}
 use Rattle.closing_model.specs.Start.{lowOf, highOf, startLowers, startUppers}
@@ -16,8 +13,7 @@ use Rattle.closing_model.specs.Closing.{newLower, newUpper, stepLowers, stepUpp
 use Rattle.settling_model.specs.Stable.{lineBounds, tableBounds}
 use Rattle.settling_model.specs.Cuts.{fixTo, strikeUnfixed, mapBefore, cutIf, cutLow, cutHigh}
 use Rattle.settling_model.specs.Settling.{pass, passes, fixpoint, noneEmpty, noneBroken, settling}
-use Rattle.settling_model.specs.Plans.{is}
-use Rattle.settling_model.specs.Book.{settledBook, BookPlan}
+use Rattle.settling_model.specs.Book.{settledBook}
 
 -- ---- bytes of small books
 abbrev header : ℕ → ℕ → ℕ → List ℕ
@@ -33,15 +29,9 @@ rowLower v e lower = v ∷ 0 ∷ e ∷ 0 ∷ lower ∷ 0 ∷ 255 ∷ 255 ∷ []
 abbrev rowUpper : ℕ → ℕ → ℕ → List ℕ
 rowUpper v e upper = v ∷ 0 ∷ e ∷ 0 ∷ 0 ∷ 0 ∷ upper ∷ 0 ∷ []
 
--- ---- the books; those of M4, M7 and M8 take their masks
+-- ---- the books of M4, M7 and M8, for any masks
 abbrev m4 : List ℕ → List ℕ
 m4 ms = header 5 3 2 ++ masksOf ms ++ rowLower 1 5 2 ++ rowLower 2 5 1
-
-abbrev m5 : List ℕ
-m5 = header 2 2 1 ++ masksOf (3 ∷ 3 ∷ []) ++ rowLower 0 1 2
-
-abbrev m6 : List ℕ
-m6 = header 2 2 2 ++ masksOf (3 ∷ 3 ∷ []) ++ rowLower 0 1 1 ++ rowLower 1 1 1
 
 abbrev m7 : List ℕ → List ℕ
 m7 ms = header 4 4 2 ++ masksOf ms ++ rowUpper 0 4 1 ++ rowUpper 1 4 1
@@ -53,30 +43,11 @@ m8 ms = header 3 2 1 ++ masksOf ms ++ rowLower 0 2 1
 abbrev wide : List ℕ
 wide = header 1 32 1 ++ (255 ∷ 255 ∷ 255 ∷ 255 ∷ []) ++ rowLower 31 1 1
 
--- M7 settles unchanged. Two slots fixed to 0 break its upper: dead. M5 and M6 are dead in closing. M8's run: without 0 at slot 1, slot 0 is
--- fixed to 0. M4's rows, where 0 stands twice and may not stand again: struck from the other slots, and not from those fixed to it.
--- A mask of 32 bits.
-worked : (settledBook (m7 (3 ∷ 3 ∷ 3 ∷ 12 ∷ [])) ≡ some (3 ∷ 3 ∷ 3 ∷ 12 ∷ []))
-    × (settledBook (m7 (1 ∷ 1 ∷ 3 ∷ 12 ∷ [])) ≡ none)
-    × (settledBook m5 ≡ none)
-    × (settledBook m6 ≡ none)
+-- M7's rows: two slots fixed to 0 break its upper, so it is dead. M8's row: without 0 at slot 1, slot 0 is fixed to 0. M4's rows, where 0 stands
+-- twice and may not stand again: struck from the other slots, and not from those fixed to it. A mask of 32 bits.
+worked : (settledBook (m7 (1 ∷ 1 ∷ 3 ∷ 12 ∷ [])) ≡ none)
     × (settledBook (m8 (3 ∷ 2 ∷ 3 ∷ [])) ≡ some (1 ∷ 2 ∷ 3 ∷ []))
     × (settledBook (m4 (1 ∷ 1 ∷ 7 ∷ 7 ∷ 7 ∷ [])) ≡ some (1 ∷ 1 ∷ 6 ∷ 6 ∷ 6 ∷ []))
     × (settledBook wide ≡ some (2147483648 ∷ []))
 unfolding testBit clearBit count only listOf others lowOf highOf startLowers startUppers newLower newUpper stepLowers stepUppers crossed same closingWithin listSum closing lineBounds tableBounds fixTo strikeUnfixed mapBefore cutIf cutLow cutHigh pass passes fixpoint noneEmpty noneBroken settling bind settledBook
-worked = (refl, refl, refl, refl, refl, refl, refl)
-
--- ---- M7: slots 0 to 2 share two values that may each stand once
-low-value : (x : ℕ) → Has 3 x → is x 0 + is x 1 ≡ 1
-unfolding is
-low-value zero has = refl
-low-value (suc zero) has = refl
-low-value (suc (suc x)) has = absurd (omega (arith, has, testBit-high 2 3 (suc (suc x)) (omega arith) (omega arith)))
-
-m7-no-plan : (p : List ℕ) → BookPlan (m7 (3 ∷ 3 ∷ 3 ∷ 12 ∷ [])) p → ⊥
-unfolding count listOf
-m7-no-plan p plan =
-    let slot0 = low-value (getD p 0 0) (plan .allowed 0 (omega arith)) in
-    let slot1 = low-value (getD p 1 0) (plan .allowed 1 (omega arith)) in
-    let slot2 = low-value (getD p 2 0) (plan .allowed 2 (omega arith)) in
-    omega (arith, slot0, slot1, slot2, plan .rows .0 .high, plan .rows .1 .0 .high)
+worked = (refl, refl, refl, refl)

@@ -1,0 +1,3 @@
+pub mod ClaimsLaws
+pub mod PlanTestLaws
+pub mod Worked

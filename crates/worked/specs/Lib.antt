@@ -1,0 +1,4 @@
+pub mod Bytes
+pub mod Claims
+pub mod PlanTest
+pub mod WorkedTable
