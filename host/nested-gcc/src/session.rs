@@ -77,7 +77,8 @@ impl Answer {
 /// # Example
 ///
 /// A search for a plan, depth first. The calls made so far are the way to the present masks, and each step
-/// makes the list again with a few calls more.
+/// makes the list again with a few calls more. A list has at most 4096 calls, so this is for small books; the
+/// program `examples/search.rs` sends the decisions in force alone.
 ///
 /// ```
 /// use nested_gcc::{session, Answer, Book, Calls, Refusal};
