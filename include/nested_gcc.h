@@ -119,7 +119,7 @@ uint32_t nested_gcc_close(const uint8_t *book, size_t book_len,
  *     is not touched.
  * Bytes past the n elements stay as they are.
  *
- * Stack: 86 KiB, and up to 560 bytes for each strike that is nested in another. The deepest nesting found, a
+ * Stack: 84 KiB, and up to 560 bytes for each strike that is nested in another. The deepest nesting found, a
  * chain of 255 fixes, needs 223 KiB in all; 256 KiB is what the test holds. A strike takes a type out of a
  * mask before it goes deeper, so no book nests more than 8192 of them: 5 MiB suffices for every book.
  */
