@@ -1,0 +1,730 @@
+/*
+ * Random and damaged inputs for the four functions of nested_gcc.h, made and judged here; tools/robustness builds
+ * and runs it. As a program: robustness SEED FIRST COUNT runs the inputs FIRST to FIRST + COUNT - 1 of that seed
+ * and prints how many of each kind gave each answer. An input follows from the seed and its number alone, so that a
+ * failure is run again by its number. Built with -DFUZZ it is a target of libFuzzer instead.
+ *
+ * Each function runs twice on each input: once with every buffer against an unreadable page behind it, once with one
+ * in front; the outputs hold other bytes each time, and for one input in eight the stack does. What must hold:
+ * - the answers are those that nested_gcc.h names, and agree with each other: close, settle and session refuse a book
+ *   as check does, 10 and 9 are answered exactly where the lengths say so, a book dead in closing is dead in settling,
+ *   and the session opens as settle answers;
+ * - an output is written exactly as far as the answer says, nowhere if it is a refusal; every other byte, and the
+ *   256 on the open side of each buffer, are as they were; book and calls too;
+ * - both runs answer and write the same;
+ * - dead writes zeros; live writes lowers at most uppers, and masks that are not empty and lie within the book's; the
+ *   words of a call are such as nested_gcc.h names, and the last masks of a session lie within those of settle.
+ * With -DSHAM=1 to 8 a wrong library is judged, and must be found out: see `sham` below.
+ */
+#define _DEFAULT_SOURCE
+#include "nested_gcc.h"
+#include <signal.h>
+#include <stdarg.h>
+#include <stdio.h>
+#include <stdlib.h>
+#include <string.h>
+#include <sys/mman.h>
+#include <unistd.h>
+
+#define PAGE 4096u
+#define GUARD 256u
+#define BOOK_ROOM (3 * PAGE)     /* the longest good book has 9228 bytes */
+#define CALLS_ROOM (5 * PAGE)    /* the longest good list has 16384 bytes */
+#define TABLE_ROOM (5 * PAGE)    /* NESTED_GCC_TABLE_BYTES and more */
+#define ANSWERS_ROOM (9 * PAGE)  /* NESTED_GCC_ANSWERS_BYTES and more */
+
+#ifndef SHAM
+#define SHAM 0
+#endif
+
+/* ---- failures ---- */
+
+static unsigned long long seed, number;
+
+static void fail(const char *format, ...) {
+    va_list arguments;
+    va_start(arguments, format);
+    fprintf(stderr, "input %llu of seed %llu: ", number, seed);
+    vfprintf(stderr, format, arguments);
+    fputc('\n', stderr);
+    va_end(arguments);
+#ifdef FUZZ
+    abort(); /* libFuzzer then keeps the input */
+#else
+    exit(1);
+#endif
+}
+
+#ifndef FUZZ
+
+/* An access outside the lent buffers, or a crash. */
+static void on_signal(int signal_number) {
+    char line[128];
+    int length = snprintf(line, sizeof line, "input %llu of seed %llu: signal %d\n", number, seed, signal_number);
+    if (write(2, line, (size_t)length) != length) _exit(4);
+    _exit(3);
+}
+
+static void watch_signals(void) {
+    static uint8_t handler_stack[64 * 1024];
+    static const int signals[] = { SIGSEGV, SIGBUS, SIGILL, SIGFPE };
+    struct sigaction action;
+    stack_t stack;
+    size_t i;
+    memset(&stack, 0, sizeof stack);
+    stack.ss_sp = handler_stack;
+    stack.ss_size = sizeof handler_stack;
+    sigaltstack(&stack, NULL);
+    memset(&action, 0, sizeof action);
+    action.sa_handler = on_signal;
+    action.sa_flags = SA_ONSTACK;
+    for (i = 0; i < sizeof signals / sizeof *signals; i++) sigaction(signals[i], &action, NULL);
+}
+
+#endif
+
+/* ---- buffers ---- */
+
+/* Whole pages between two unreadable ones. */
+struct region {
+    uint8_t *at;
+    size_t size;
+};
+
+static struct region book_region, calls_region, first_region, second_region;
+
+static struct region new_region(size_t size) {
+    struct region region;
+    uint8_t *at = mmap(NULL, size + 2 * PAGE, PROT_NONE, MAP_PRIVATE | MAP_ANONYMOUS, -1, 0);
+    if (at == MAP_FAILED || mprotect(at + PAGE, size, PROT_READ | PROT_WRITE) != 0) {
+        perror("mmap");
+        exit(2);
+    }
+    region.at = at + PAGE;
+    region.size = size;
+    return region;
+}
+
+/* A buffer at one side of its region, its guard bytes on the other. */
+struct lent {
+    uint8_t *at;
+    size_t length;
+    uint8_t *from, *to; /* buffer and guard together */
+    uint8_t paint;
+};
+
+static uint8_t painted(const struct lent *lent, const uint8_t *at) {
+    return (uint8_t)(lent->paint + 167 * (at - lent->from));
+}
+
+/* Lends `length` bytes, at the end of the region on pass 0 and at its start on pass 1, all of them painted. */
+static struct lent lend(struct region region, size_t length, int pass, uint8_t paint) {
+    struct lent lent;
+    uint8_t *byte;
+    if (length + GUARD > region.size) fail("%zu bytes are too many for the region", length);
+    lent.length = length;
+    lent.paint = paint;
+    lent.at = pass == 0 ? region.at + region.size - length : region.at;
+    lent.from = pass == 0 ? lent.at - GUARD : lent.at;
+    lent.to = lent.from + length + GUARD;
+    for (byte = lent.from; byte < lent.to; byte++) *byte = painted(&lent, byte);
+    return lent;
+}
+
+/* Every byte but the first `written` of the buffer is as it was painted. */
+static void must_be_kept(const struct lent *lent, size_t written, const char *name) {
+    const uint8_t *byte;
+    for (byte = lent->from; byte < lent->to; byte++) {
+        if (byte >= lent->at && byte < lent->at + written) continue;
+        if (*byte != painted(lent, byte)) fail("%s: byte %ld was written", name, (long)(byte - lent->at));
+    }
+}
+
+/* ---- inputs ---- */
+
+struct input {
+    uint8_t book[BOOK_ROOM], calls[CALLS_ROOM];
+    size_t book_length, calls_length;
+    size_t lowers_length, uppers_length, masks_length, answers_length, last_masks_length;
+};
+
+static unsigned book_slots(const struct input *input) { return input->book[0] + 256u * input->book[1]; }
+static unsigned book_types(const struct input *input) { return input->book[2]; }
+
+static uint32_t word(const uint8_t *bytes, size_t i) {
+    bytes += 4 * i;
+    return bytes[0] + 256u * bytes[1] + 65536u * bytes[2] + 16777216u * bytes[3];
+}
+
+static unsigned half(const uint8_t *bytes, size_t i) { return bytes[2 * i] + 256u * bytes[2 * i + 1]; }
+
+static uint32_t book_mask(const struct input *input, size_t slot) { return word(input->book + 12, slot); }
+
+/* ---- the library, or a sham ---- */
+
+enum entry { CHECK, CLOSE, SETTLE, SESSION, ENTRIES };
+static const char *const entry_names[ENTRIES] = { "check", "close", "settle", "session" };
+
+static uint32_t library(enum entry entry, struct lent book, struct lent calls, struct lent first, struct lent second) {
+    switch (entry) {
+    case CHECK: return nested_gcc_check(book.at, book.length);
+    case CLOSE: return nested_gcc_close(book.at, book.length, first.at, first.length, second.at, second.length);
+    case SETTLE: return nested_gcc_settle(book.at, book.length, first.at, first.length);
+    default:
+        return nested_gcc_session(book.at, book.length, calls.at, calls.length, first.at, first.length, second.at,
+                                  second.length);
+    }
+}
+
+/* What the library does, or with SHAM a library that is wrong in one way. */
+static uint32_t sham(enum entry entry, struct lent book, struct lent calls, struct lent first, struct lent second) {
+    static unsigned turns;
+    uint32_t answer;
+    volatile uint8_t beyond = 0;
+    if (SHAM == 5 && entry == CHECK) beyond = book.at[book.length];            /* reads past the book */
+    if (SHAM == 8 && entry == CLOSE && first.length > 0 && first.at[0] & 64) return 265; /* reads an output */
+    (void)beyond;
+    answer = library(entry, book, calls, first, second);
+    turns++;
+    if (SHAM == 1 && entry == SETTLE && answer == 0) first.at[first.length] ^= 1;   /* one byte past an output */
+    if (SHAM == 2 && entry == CLOSE && answer == 265 && first.length > 0) first.at[0] ^= 1; /* refused, yet writes */
+    if (SHAM == 3 && entry == SESSION && answer < 2) second.at[0] ^= turns % 64 == 0; /* now and then another mask */
+    if (SHAM == 4 && entry == CHECK && answer == 0 && book.at[2] == 3) return 1;      /* a good book called dead */
+    if (SHAM == 6 && entry == SETTLE && answer == 1) first.at[0] = 1;                 /* dead, and a mask left */
+    if (SHAM == 7 && entry == SESSION && answer >= 257 && answer <= 264) return 266;  /* a refusal out of order */
+    return answer;
+}
+
+/* Fills the stack below with one byte. */
+static void paint_stack(uint8_t byte) {
+    volatile uint8_t stack[160 * 1024];
+    memset((void *)stack, byte, sizeof stack);
+}
+
+/* ---- judging ---- */
+
+/* What a function answered and wrote. */
+struct outcome {
+    uint32_t answer;
+    size_t first_written, second_written;
+    uint8_t first[ANSWERS_ROOM], second[TABLE_ROOM];
+};
+
+/* The answer that the lengths demand of a book that check takes: 266, 265, or 0 if it is for the book to say. */
+static uint32_t fault_of_lengths(enum entry entry, const struct input *input) {
+    size_t n = book_slots(input), table = book_types(input) * (n + 1), calls = input->calls_length / 4;
+    int room = 1;
+    if (entry == SESSION && (input->calls_length % 4 != 0 || input->calls_length > NESTED_GCC_CALLS_BYTES)) return 266;
+    if (entry == CLOSE) room = input->lowers_length / 2 >= table && input->uppers_length / 2 >= table;
+    if (entry == SETTLE) room = input->masks_length / 4 >= n;
+    if (entry == SESSION) room = input->answers_length / 4 >= 2 * calls && input->last_masks_length / 4 >= n;
+    return room ? 0 : 265;
+}
+
+/* Runs the function once; the bytes outside of what the answer writes must be kept. */
+static void run_once(enum entry entry, const struct input *input, int pass, struct outcome *outcome) {
+    size_t n = book_slots(input), table = 2 * book_types(input) * (n + 1);
+    size_t first_length = 0, second_length = 0;
+    struct lent book, calls, first, second;
+    if (entry == CLOSE) first_length = input->lowers_length, second_length = input->uppers_length;
+    if (entry == SETTLE) first_length = input->masks_length;
+    if (entry == SESSION) first_length = input->answers_length, second_length = input->last_masks_length;
+    book = lend(book_region, input->book_length, pass, 17);
+    memcpy(book.at, input->book, input->book_length);
+    calls = lend(calls_region, entry == SESSION ? input->calls_length : 0, pass, 71);
+    memcpy(calls.at, input->calls, calls.length);
+    first = lend(first_region, first_length, pass, pass == 0 ? 5 : 200);
+    second = lend(second_region, second_length, pass, pass == 0 ? 250 : 90);
+    if (number % 8 == 0) paint_stack(pass == 0 ? 0 : 255);
+    outcome->answer = sham(entry, book, calls, first, second);
+    outcome->first_written = outcome->second_written = 0;
+    if (outcome->answer < 2) {
+        if (entry == CLOSE) outcome->first_written = outcome->second_written = table;
+        if (entry == SETTLE) outcome->first_written = 4 * n;
+        if (entry == SESSION) outcome->first_written = 2 * input->calls_length, outcome->second_written = 4 * n;
+    }
+    if (outcome->first_written > first_length || outcome->second_written > second_length)
+        fail("%s answers %u, and an output is too short for that", entry_names[entry], (unsigned)outcome->answer);
+    must_be_kept(&book, book.length, "beside the book");
+    must_be_kept(&calls, calls.length, "beside the calls");
+    must_be_kept(&first, outcome->first_written, "first output");
+    must_be_kept(&second, outcome->second_written, "second output");
+    if (memcmp(book.at, input->book, book.length) != 0) fail("%s wrote to the book", entry_names[entry]);
+    if (memcmp(calls.at, input->calls, calls.length) != 0) fail("%s wrote to the calls", entry_names[entry]);
+    memcpy(outcome->first, first.at, outcome->first_written);
+    memcpy(outcome->second, second.at, outcome->second_written);
+}
+
+static struct outcome outcomes[ENTRIES], again;
+
+static void run_twice(enum entry entry, const struct input *input) {
+    struct outcome *outcome = &outcomes[entry];
+    run_once(entry, input, 0, outcome);
+    run_once(entry, input, 1, &again);
+    if (outcome->answer != again.answer || memcmp(outcome->first, again.first, again.first_written) != 0 ||
+        memcmp(outcome->second, again.second, again.second_written) != 0)
+        fail("%s: another answer, or another output, the second time", entry_names[entry]);
+}
+
+static void must_be_zero(const uint8_t *bytes, size_t length, const char *name) {
+    size_t i;
+    for (i = 0; i < length; i++) {
+        if (bytes[i] != 0) fail("%s: dead, and byte %zu is not 0", name, i);
+    }
+}
+
+static void judge_table(const struct input *input, const struct outcome *close) {
+    size_t line = book_slots(input) + 1, i;
+    for (i = 0; i < close->first_written / 2; i++) {
+        unsigned lower = half(close->first, i), upper = half(close->second, i);
+        if (lower > upper || upper > i % line) fail("bounds %u and %u at element %zu", lower, upper, i);
+    }
+}
+
+static void judge_words(const struct input *input, const struct outcome *session) {
+    size_t i;
+    for (i = 0; i < input->calls_length / 4; i++) {
+        uint32_t first = word(session->first, 2 * i), second = word(session->first, 2 * i + 1);
+        if (!(first < 4 || (first >= 267 && first <= 272))) fail("call %zu: first word %u", i, (unsigned)first);
+        if (second != 0 && first != 0 && first != 2)
+            fail("call %zu: words %u %u", i, (unsigned)first, (unsigned)second);
+    }
+}
+
+/* Each mask is one of the slot's types or more, and no others. */
+static void judge_masks(const struct input *input, const uint8_t *masks, const char *name) {
+    size_t slot;
+    for (slot = 0; slot < book_slots(input); slot++) {
+        uint32_t mask = word(masks, slot);
+        if (mask == 0 || (mask & ~book_mask(input, slot)) != 0)
+            fail("%s: mask %u of slot %zu", name, (unsigned)mask, slot);
+    }
+}
+
+static void judge_answers(const struct input *input) {
+    uint32_t check = outcomes[CHECK].answer;
+    int entry;
+    if (check != 0 && !(check >= 257 && check <= 264)) fail("check answers %u", (unsigned)check);
+    for (entry = CLOSE; entry < ENTRIES; entry++) {
+        uint32_t answer = outcomes[entry].answer, expected = check;
+        if (check == 0) expected = fault_of_lengths((enum entry)entry, input);
+        if (expected == 0 ? answer > 1 : answer != expected)
+            fail("%s answers %u where check answers %u", entry_names[entry], (unsigned)answer, (unsigned)check);
+    }
+    if (outcomes[CLOSE].answer == 1 && outcomes[SETTLE].answer == 0) fail("dead in closing, live in settling");
+    if (outcomes[SETTLE].answer < 2 && outcomes[SESSION].answer < 2 &&
+        outcomes[SETTLE].answer != outcomes[SESSION].answer)
+        fail("settle and session do not agree on live or dead");
+}
+
+static void judge_outputs(const struct input *input) {
+    const struct outcome *close = &outcomes[CLOSE], *settle = &outcomes[SETTLE], *session = &outcomes[SESSION];
+    size_t slot;
+    if (close->answer == 0) judge_table(input, close);
+    if (close->answer == 1) must_be_zero(close->first, close->first_written, "lowers");
+    if (close->answer == 1) must_be_zero(close->second, close->second_written, "uppers");
+    if (settle->answer == 0) judge_masks(input, settle->first, "settle");
+    if (settle->answer == 1) must_be_zero(settle->first, settle->first_written, "masks");
+    if (session->answer < 2) judge_words(input, session);
+    if (session->answer == 0) judge_masks(input, session->second, "session");
+    if (session->answer == 1) must_be_zero(session->second, session->second_written, "last masks");
+    if (settle->answer != 0 || session->answer != 0) return;
+    for (slot = 0; slot < book_slots(input); slot++) {
+        if ((word(session->second, slot) & ~word(settle->first, slot)) != 0)
+            fail("slot %zu: the last mask is not within settle's", slot);
+    }
+}
+
+static void judge(const struct input *input) {
+    int entry;
+    for (entry = CHECK; entry < ENTRIES; entry++) run_twice((enum entry)entry, input);
+    judge_answers(input);
+    judge_outputs(input);
+}
+
+static void make_regions(void) {
+    book_region = new_region(BOOK_ROOM);
+    calls_region = new_region(CALLS_ROOM);
+    first_region = new_region(ANSWERS_ROOM);
+    second_region = new_region(TABLE_ROOM);
+}
+
+/* ---- books and calls ---- */
+
+static void put_half(uint8_t *at, unsigned value) {
+    at[0] = (uint8_t)value;
+    at[1] = (uint8_t)(value >> 8);
+}
+
+static void put_word(uint8_t *at, uint32_t value) {
+    put_half(at, value & 65535u);
+    put_half(at + 2, value >> 16);
+}
+
+/* The header of a book with n slots, k types and r rows; its length. */
+static size_t put_header(uint8_t *book, unsigned n, unsigned k, unsigned r) {
+    unsigned rows_at = 12 + 4 * n, length = rows_at + 8 * r;
+    put_half(book, n);
+    book[2] = (uint8_t)k;
+    book[3] = 0;
+    put_half(book + 4, r);
+    put_half(book + 6, 12);
+    put_half(book + 8, rows_at);
+    put_half(book + 10, length);
+    return length;
+}
+
+static void put_row(uint8_t *book, unsigned n, unsigned row, unsigned type, unsigned end, unsigned lower,
+                    unsigned upper) {
+    uint8_t *at = book + 12 + 4 * n + 8 * row;
+    at[0] = (uint8_t)type;
+    at[1] = 0;
+    put_half(at + 2, end);
+    put_half(at + 4, lower);
+    put_half(at + 6, upper);
+}
+
+#ifndef FUZZ
+
+/* ---- random inputs ---- */
+
+static uint64_t state;
+
+/* The generator splitmix64. */
+static uint64_t bits(void) {
+    uint64_t z = state += 0x9e3779b97f4a7c15u;
+    z = (z ^ z >> 30) * 0xbf58476d1ce4e5b9u;
+    z = (z ^ z >> 27) * 0x94d049bb133111ebu;
+    return z ^ z >> 31;
+}
+
+static unsigned below(unsigned limit) { return (unsigned)((bits() >> 16) % limit); }
+static unsigned between(unsigned least, unsigned most) { return least + below(most - least + 1); }
+
+static void put_random(uint8_t *at, size_t length) {
+    while (length-- > 0) *at++ = (uint8_t)below(256);
+}
+
+/* The rows of a book: near the counts of a plan, so that it mostly is live, or at random. */
+static void put_rows(uint8_t *book, const uint8_t *plan, unsigned n, unsigned k, unsigned r, int near) {
+    unsigned row, i;
+    for (row = 0; row < r; row++) {
+        unsigned type = below(k), end = between(1, n), count = 0, slack = below(3), lower, upper;
+        for (i = 0; i < end; i++) count += plan[i] == type;
+        lower = count > slack ? count - slack : 0;
+        upper = below(4) == 0 ? 65535 : count + below(3);
+        if (!near) lower = below(end + 2), upper = below(end + 2);
+        put_row(book, n, row, type, end, lower < 256 ? lower : 256, upper < 256 || upper == 65535 ? upper : 256);
+    }
+}
+
+/* A good book: a plan, masks around it, and rows. */
+static void good_book(struct input *input, int large) {
+    unsigned n = large ? between(200, 256) : between(1, 14), k = large ? between(1, 32) : between(1, 6);
+    unsigned r = large ? (below(4) == 0 ? between(1000, 1024) : below(120)) : below(9);
+    unsigned others = below(9), slot, v;
+    int near = below(4) != 0;
+    uint8_t plan[256];
+    input->book_length = put_header(input->book, n, k, r);
+    for (slot = 0; slot < n; slot++) {
+        uint32_t mask = 1u << (plan[slot] = (uint8_t)below(k));
+        for (v = 0; v < k; v++) mask |= (uint32_t)(below(8) < others) << v;
+        put_word(input->book + 12 + 4 * slot, mask);
+    }
+    put_rows(input->book, plan, n, k, r, near);
+}
+
+static const char *const book_kinds[] = {
+    "random bytes", "a right header, then random bytes", "a good small book", "a good large book",
+    "a good book, 1 to 4 bits flipped", "a good book, 1 to 4 bytes changed", "a good book, cut short",
+    "a good book, extended"
+};
+#define BOOK_KINDS (sizeof book_kinds / sizeof *book_kinds)
+
+static unsigned make_book(struct input *input) {
+    static const uint8_t kinds[] = { 0, 1, 2, 2, 2, 2, 2, 4, 4, 4, 5, 5, 5, 6, 7, 3 };
+    unsigned kind = kinds[below(sizeof kinds)], i, more;
+    memset(input->book, 0, 12);
+    if (kind == 3 && below(4) != 0) kind = 2; /* large books are few, since they take long */
+    if (kind == 0) put_random(input->book, input->book_length = below(16) == 0 ? below(9300) : below(80));
+    if (kind == 1) {
+        input->book_length = put_header(input->book, between(1, 6), between(30, 32), below(4));
+        put_random(input->book + 12, input->book_length - 12);
+    }
+    if (kind >= 2) good_book(input, kind == 3 || below(200) == 0);
+    for (i = between(1, 4); i > 0 && (kind == 4 || kind == 5); i--) {
+        size_t at = below(3) == 0 ? below(12) : below((unsigned)input->book_length);
+        input->book[at] = (uint8_t)(kind == 4 ? input->book[at] ^ 1u << below(8) : below(256));
+    }
+    if (kind == 6) input->book_length = below((unsigned)input->book_length);
+    if (kind == 7) {
+        more = between(1, 40);
+        put_random(input->book + input->book_length, more);
+        input->book_length += more;
+    }
+    return kind;
+}
+
+static const char *const call_kinds[] = {
+    "no calls", "good calls", "good calls, 1 to 4 bits flipped", "random bytes, whole calls", "not whole calls",
+    "more marks than may be open", "the longest list", "longer than the longest list"
+};
+#define CALL_KINDS (sizeof call_kinds / sizeof *call_kinds)
+
+/* Calls of known kinds, with slots and types that the book has if its header says so. Up to the call `marks` most
+ * are marks, and no other is a back. */
+static void good_calls(struct input *input, unsigned count, unsigned marks) {
+    static const uint8_t kinds[] = { 1, 1, 2, 2, 2, 2, 2, 3, 3, 3, 4, 4, 4, 4, 5, 6, 7 };
+    unsigned n = book_slots(input), k = book_types(input), i;
+    for (i = 0; i < count; i++) {
+        input->calls[4 * i] = i < marks ? (below(8) == 0 ? 5 : 3) : kinds[below(sizeof kinds)];
+        input->calls[4 * i + 1] = (uint8_t)below(k == 0 ? 1 : k);
+        put_half(input->calls + 4 * i + 2, below(n == 0 ? 1 : n));
+    }
+    input->calls_length = 4 * count;
+}
+
+static unsigned make_calls(struct input *input) {
+    static const uint8_t kinds[] = { 0, 1, 1, 1, 1, 1, 1, 2, 2, 2, 3, 3, 4 };
+    unsigned kind = below(200) == 0 ? between(5, 7) : kinds[below(sizeof kinds)], i;
+    unsigned count = kind == 0 ? 0 : kind >= 6 ? 4096 : kind == 5 ? between(400, 900) : between(1, 40);
+    good_calls(input, count, kind == 5 ? between(300, 400) : below(3));
+    if (kind == 3) put_random(input->calls, input->calls_length);
+    for (i = between(1, 4); i > 0 && kind == 2; i--)
+        input->calls[below((unsigned)input->calls_length)] ^= (uint8_t)(1u << below(8));
+    if (kind == 4) input->calls_length -= between(1, 3);
+    if (kind == 7) input->calls_length += between(1, 8);
+    return kind;
+}
+
+static const char *const room_kinds[] = { "as long as needed", "longer", "one of them shorter", "any length" };
+#define ROOM_KINDS (sizeof room_kinds / sizeof *room_kinds)
+
+static unsigned make_room(struct input *input) {
+    size_t n = book_slots(input) % 257, k = book_types(input) % 33;
+    size_t needed[5], *lengths[5];
+    unsigned kind = (unsigned)"\0\0\0\1\1\2\3"[below(7)], i, cut = below(5);
+    needed[0] = needed[1] = 2 * k * (n + 1);
+    needed[2] = needed[4] = 4 * n;
+    needed[3] = 2 * input->calls_length;
+    if (needed[3] > NESTED_GCC_ANSWERS_BYTES) needed[3] = NESTED_GCC_ANSWERS_BYTES;
+    lengths[0] = &input->lowers_length, lengths[1] = &input->uppers_length, lengths[2] = &input->masks_length;
+    lengths[3] = &input->answers_length, lengths[4] = &input->last_masks_length;
+    for (i = 0; i < 5; i++) {
+        *lengths[i] = needed[i];
+        if (kind == 1) *lengths[i] += below(11);
+        if (kind == 2 && i == cut && needed[i] > 0) *lengths[i] -= between(1, needed[i] < 9 ? (unsigned)needed[i] : 9);
+        if (kind == 3) *lengths[i] = below(40 + (unsigned)needed[i]);
+    }
+    return kind;
+}
+
+/* ---- counts ---- */
+
+#define ANSWERS 12 /* 0, 1, 257 to 266 */
+
+static unsigned long by_book[BOOK_KINDS][ANSWERS], by_entry[ENTRIES][ANSWERS];
+static unsigned long by_calls[CALL_KINDS][3], by_room[ROOM_KINDS][3];
+static unsigned long first_words[16]; /* 0 to 3, then 267 to 272 from 4 on */
+
+static unsigned answer_place(uint32_t answer) { return answer < 2 ? answer : answer - 255; }
+static unsigned verdict_place(uint32_t answer) { return answer < 2 ? answer : 2; }
+
+static void count(const struct input *input, unsigned book, unsigned calls, unsigned room) {
+    const struct outcome *session = &outcomes[SESSION];
+    size_t i;
+    for (i = 0; i < ENTRIES; i++) by_entry[i][answer_place(outcomes[i].answer)]++;
+    by_book[book][answer_place(session->answer)]++;
+    by_calls[calls][verdict_place(session->answer)]++;
+    by_room[room][verdict_place(session->answer)]++;
+    for (i = 0; session->answer < 2 && i < input->calls_length / 4; i++) {
+        uint32_t first = word(session->first, 2 * i);
+        first_words[first < 4 ? first : first - 263]++;
+    }
+}
+
+static void print_line(const char *name, const unsigned long *counts, size_t length) {
+    size_t i;
+    unsigned long sum = 0;
+    printf("| %s |", name);
+    for (i = 0; i < length; i++) {
+        printf(" %lu |", counts[i]);
+        sum += counts[i];
+    }
+    printf(" %lu |\n", sum);
+}
+
+static void print_head(const char *first, const char *const *columns, size_t length) {
+    size_t i;
+    printf("\n| %s |", first);
+    for (i = 0; i < length; i++) printf(" %s |", columns[i]);
+    printf(" all |\n|---|");
+    for (i = 0; i <= length; i++) printf("---:|");
+    printf("\n");
+}
+
+static void print_counts(void) {
+    static const char *const answers[] = { "0",   "1",   "257", "258", "259", "260",
+                                           "261", "262", "263", "264", "265", "266" };
+    static const char *const verdicts[] = { "opened live", "opened dead", "refused" };
+    static const char *const words[] = { "0", "1", "2", "3", "267", "268", "269", "270", "271", "272" };
+    size_t i;
+    print_head("answers of", answers, ANSWERS);
+    for (i = 0; i < ENTRIES; i++) print_line(entry_names[i], by_entry[i], ANSWERS);
+    print_head("session's answers by kind of book", answers, ANSWERS);
+    for (i = 0; i < BOOK_KINDS; i++) print_line(book_kinds[i], by_book[i], ANSWERS);
+    print_head("session by kind of call list", verdicts, 3);
+    for (i = 0; i < CALL_KINDS; i++) print_line(call_kinds[i], by_calls[i], 3);
+    print_head("session by outputs", verdicts, 3);
+    for (i = 0; i < ROOM_KINDS; i++) print_line(room_kinds[i], by_room[i], 3);
+    print_head("first words of calls", words, 10);
+    print_line("count", first_words, 10);
+}
+
+int main(int argc, char **argv) {
+    static struct input input;
+    unsigned long long first, count_of_inputs;
+    if (argc != 4) {
+        fprintf(stderr, "usage: robustness SEED FIRST COUNT\n");
+        return 2;
+    }
+    seed = strtoull(argv[1], NULL, 10);
+    first = strtoull(argv[2], NULL, 10);
+    count_of_inputs = strtoull(argv[3], NULL, 10);
+    watch_signals();
+    make_regions();
+    for (number = first; number < first + count_of_inputs; number++) {
+        unsigned book, calls, room;
+        state = seed * 0x2545f4914f6cdd1du + number * 0xd1342543de82ef95u;
+        book = make_book(&input);
+        calls = make_calls(&input);
+        room = make_room(&input);
+        judge(&input);
+        count(&input, book, calls, room);
+    }
+    print_counts();
+    return 0;
+}
+
+#else
+
+/* ---- libFuzzer ---- */
+
+/* The archive has no counters of its own; these tell libFuzzer which answers, words and steps an input reached. */
+__attribute__((section("__libfuzzer_extra_counters"))) static uint8_t reached[8192];
+
+static void note(unsigned what, uint32_t value) {
+    unsigned size = 0;
+    while (value >> size != 0 && size < 12) size++; /* value up to a power of two */
+    reached[(what * 13 + size) % sizeof reached] = 1;
+}
+
+static void note_outcomes(const struct input *input) {
+    const struct outcome *session = &outcomes[SESSION];
+    unsigned before = 0, open = 0;
+    size_t i;
+    for (i = 0; i < ENTRIES; i++) note(512 + 16 * (unsigned)i + outcomes[i].answer % 16, 0);
+    for (i = 0; session->answer < 2 && i < input->calls_length / 4; i++) {
+        uint32_t first = word(session->first, 2 * i), second = word(session->first, 2 * i + 1);
+        unsigned here = (input->calls[4 * i] & 7u) * 8 + (first < 4 ? first : 4 + first % 4);
+        note(here, second);
+        note(64 + (before & 7u) * 64 + here, 0);
+        open += first == 3 && input->calls[4 * i] == 3;
+        before = here;
+    }
+    note(600, open);
+}
+
+static uint32_t every_type(unsigned k) { return 0xffffffffu >> (32 - k); }
+
+/* Makes a book of any bytes good: header, masks and rows are cut to what they may be. */
+static void repair_book(struct input *input) {
+    unsigned n, k, r, i;
+    size_t length = input->book_length;
+    if (length < 12) return;
+    n = 1 + (input->book[0] + (input->book[1] & 1u) * 128u) % 256;
+    k = 1 + input->book[2] % 32u;
+    r = input->book[4] % 65u;
+    memset(input->book + length, 0, BOOK_ROOM - length);
+    input->book_length = put_header(input->book, n, k, r);
+    for (i = 0; i < n; i++) {
+        uint32_t mask = book_mask(input, i) & every_type(k);
+        put_word(input->book + 12 + 4 * i, mask == 0 ? every_type(k) : mask);
+    }
+    for (i = 0; i < r; i++) {
+        uint8_t *row = input->book + 12 + 4 * n + 8 * i;
+        unsigned end = 1 + half(row, 1) % n, upper = row[6] % (n + 2);
+        put_row(input->book, n, i, row[0] % k, end, row[4] % (n + 2), upper > n ? 65535 : upper);
+    }
+}
+
+static void repair_calls(struct input *input) {
+    unsigned n = book_slots(input), k = book_types(input), i;
+    if (n == 0 || k == 0) return;
+    input->calls_length -= input->calls_length % 4;
+    for (i = 0; i < input->calls_length / 4; i++) {
+        uint8_t *call = input->calls + 4 * i;
+        call[0] = 1 + call[0] % 7;
+        call[1] = (uint8_t)(call[1] % k);
+        put_half(call + 2, half(call, 1) % n);
+    }
+}
+
+static unsigned long opened_live, opened_dead, refused, decisions;
+
+static void print_sessions(void) {
+    fprintf(stderr, "sessions: %lu opened live, %lu opened dead, %lu refused; %lu decisions answered live or dead\n",
+            opened_live, opened_dead, refused, decisions);
+}
+
+static void count_session(const struct input *input) {
+    const struct outcome *session = &outcomes[SESSION];
+    size_t i;
+    opened_live += session->answer == 0;
+    opened_dead += session->answer == 1;
+    refused += session->answer > 1;
+    for (i = 0; session->answer == 0 && i < input->calls_length / 4; i++) decisions += word(session->first, 2 * i) < 2;
+}
+
+int LLVMFuzzerInitialize(int *argc, char ***argv);
+int LLVMFuzzerTestOneInput(const uint8_t *data, size_t size);
+
+int LLVMFuzzerInitialize(int *argc, char ***argv) {
+    (void)argc;
+    (void)argv;
+    make_regions();
+    atexit(print_sessions);
+    return 0;
+}
+
+/* The input: what to repair and which output to cut (1 byte), the book's length (2 bytes), the book, the calls. */
+int LLVMFuzzerTestOneInput(const uint8_t *data, size_t size) {
+    static struct input input;
+    size_t book, n, k;
+    unsigned cut;
+    if (size < 3) return 0;
+    book = data[1] + 256u * data[2];
+    book = book < size - 3 ? book : size - 3;
+    if (book > BOOK_ROOM - GUARD || size - 3 - book > CALLS_ROOM - GUARD) return 0;
+    memcpy(input.book, data + 3, input.book_length = book);
+    memcpy(input.calls, data + 3 + book, input.calls_length = size - 3 - book);
+    if (input.book_length < 3) memset(input.book + input.book_length, 0, 3);
+    if (data[0] & 1) repair_book(&input);
+    if (data[0] & 2) repair_calls(&input);
+    n = book_slots(&input) % 257, k = book_types(&input) % 33;
+    cut = data[0] >> 2 & 7; /* which output is one byte too short; 5 to 7: none */
+    input.lowers_length = 2 * k * (n + 1) - (k > 0 && cut == 0);
+    input.uppers_length = 2 * k * (n + 1) - (k > 0 && cut == 1);
+    input.masks_length = 4 * n - (n > 0 && cut == 2);
+    input.last_masks_length = 4 * n - (n > 0 && cut == 3) + (data[0] >> 6);
+    input.answers_length = 2 * input.calls_length;
+    if (input.answers_length > NESTED_GCC_ANSWERS_BYTES) input.answers_length = NESTED_GCC_ANSWERS_BYTES;
+    input.answers_length -= input.answers_length > 0 && cut == 4;
+    number++;
+    judge(&input);
+    note_outcomes(&input);
+    count_session(&input);
+    return 0;
+}
+
+#endif
