@@ -1,0 +1,203 @@
+// The words that run an entry on the book and the call list of a line, and print its answer after their own name: 0 (live, or a good book), 1 (dead)
+// or 256 + document 01's number of a refusal. What was written can then be printed, see show.rt.
+//   check
+//   close a b         lent a lowers and b uppers, of 8,225 each: 32 * 257 and one more
+//   settle m          lent m masks of 257
+//   session w m       lent w words, of 8,194, and m masks
+//   numbers           check, close 1 1, settle 1 and session 1 1 in a row
+// Every element of an entry's outputs is 9999 before it runs, which no bound, mask or word here is; those that are not lent too. Where a word asks for
+// more elements than there are, no entry is run and - is printed for its answer.
+use crate::scan::argument;
+use crate::scan::begins_word;
+use crate::scan::is_word;
+use crate::show::end_line;
+use crate::show::show;
+use crate::show::show_counts;
+use crate::show::show_elements;
+use crate::show::show_word;
+use answer::word;
+use book::number;
+
+// Carries out each word of the line after from that runs an entry or prints what it wrote.
+pub fn run_answers(line: &[u8], from: usize, book: &[u8], calls: &[u8]) {
+    let mut lowers = [9999u16; 8225];
+    let mut uppers = [9999u16; 8225];
+    let mut words = [9999u32; 8194];
+    let mut masks = [9999u32; 257];
+    run_words(
+        line,
+        from,
+        book,
+        calls,
+        &mut lowers,
+        &mut uppers,
+        &mut words,
+        &mut masks,
+    );
+    end_line();
+}
+
+// The words of the line after from.
+fn run_words(
+    line: &[u8],
+    from: usize,
+    book: &[u8],
+    calls: &[u8],
+    lowers: &mut [u16],
+    uppers: &mut [u16],
+    words: &mut [u32],
+    masks: &mut [u32],
+) {
+    for at in from..line.len() {
+        if !begins_word(line, at) {
+            continue;
+        }
+        run_word(line, at, book, calls, lowers, uppers, words, masks);
+    }
+}
+
+// The word at at.
+fn run_word(
+    line: &[u8],
+    at: usize,
+    book: &[u8],
+    calls: &[u8],
+    lowers: &mut [u16],
+    uppers: &mut [u16],
+    words: &mut [u32],
+    masks: &mut [u32],
+) {
+    show_elements(line, at, lowers, uppers, words, masks);
+    show_counts(line, at, lowers, uppers, words, masks);
+    run_numbers(line, at, book, calls);
+    run_close(line, at, book, lowers, uppers);
+    run_settle(line, at, book, masks);
+    run_session(line, at, book, calls, words, masks);
+}
+
+// Runs close, if the word at at says so.
+fn run_close(line: &[u8], at: usize, book: &[u8], lowers: &mut [u16], uppers: &mut [u16]) {
+    if !is_word(line, at, b'c', b'o') {
+        return;
+    }
+    show_word(line, at);
+    clear16(lowers);
+    clear16(uppers);
+    let a = argument(line, at, 1) as usize;
+    let b = argument(line, at, 2) as usize;
+    show(close_word(book, lowers, uppers, a, b));
+}
+
+// Close's answer, lent the first a lowers and the first b uppers.
+fn close_word(book: &[u8], lowers: &mut [u16], uppers: &mut [u16], a: usize, b: usize) -> u32 {
+    if lowers.len() < a {
+        return 9999;
+    }
+    if uppers.len() < b {
+        return 9999;
+    }
+    word(entries::close(book, &mut lowers[..a], &mut uppers[..b]))
+}
+
+// Runs settle, if the word at at says so.
+fn run_settle(line: &[u8], at: usize, book: &[u8], masks: &mut [u32]) {
+    if !is_word(line, at, b's', b't') {
+        return;
+    }
+    show_word(line, at);
+    clear(masks);
+    show(settle_word(book, masks, argument(line, at, 1) as usize));
+}
+
+// Settle's answer, lent the first m masks.
+fn settle_word(book: &[u8], masks: &mut [u32], m: usize) -> u32 {
+    if masks.len() < m {
+        return 9999;
+    }
+    word(entries::settle(book, &mut masks[..m]))
+}
+
+// Runs session, if the word at at says so.
+fn run_session(
+    line: &[u8],
+    at: usize,
+    book: &[u8],
+    calls: &[u8],
+    words: &mut [u32],
+    masks: &mut [u32],
+) {
+    if !is_word(line, at, b's', b's') {
+        return;
+    }
+    show_word(line, at);
+    clear(words);
+    clear(masks);
+    let w = argument(line, at, 1) as usize;
+    let m = argument(line, at, 2) as usize;
+    show(session_word(book, calls, words, masks, w, m));
+}
+
+// Session's answer, lent the first w words and the first m masks.
+fn session_word(
+    book: &[u8],
+    calls: &[u8],
+    words: &mut [u32],
+    masks: &mut [u32],
+    w: usize,
+    m: usize,
+) -> u32 {
+    if words.len() < w {
+        return 9999;
+    }
+    if masks.len() < m {
+        return 9999;
+    }
+    word(entries::session(book, calls, &mut words[..w], &mut masks[..m]))
+}
+
+// Runs check, or all four, if the word at at says so.
+fn run_numbers(line: &[u8], at: usize, book: &[u8], calls: &[u8]) {
+    if is_word(line, at, b'c', b'e') {
+        show_word(line, at);
+        show(check_word(book));
+    }
+    if is_word(line, at, b'n', b'm') {
+        show_word(line, at);
+        show_numbers(book, calls);
+    }
+}
+
+// The answers of all four entries, lent one element for each output.
+fn show_numbers(book: &[u8], calls: &[u8]) {
+    let mut lowers = [9999u16; 1];
+    let mut uppers = [9999u16; 1];
+    let mut words = [9999u32; 1];
+    let mut masks = [9999u32; 1];
+    show(check_word(book));
+    show(word(entries::close(book, &mut lowers, &mut uppers)));
+    show(word(entries::settle(book, &mut masks)));
+    show(word(entries::session(book, calls, &mut words, &mut masks)));
+}
+
+// Check's answer.
+fn check_word(book: &[u8]) -> u32 {
+    let number = number(entries::check(book));
+    if number == 0 {
+        return 0;
+    }
+    256 + number % 256
+}
+
+// Makes every element 9999.
+fn clear16(a: &mut [u16]) {
+    for i in 0..a.len() {
+        a[i] = 9999;
+    }
+}
+
+// Makes every element 9999.
+fn clear(a: &mut [u32]) {
+    for i in 0..a.len() {
+        a[i] = 9999;
+    }
+}
