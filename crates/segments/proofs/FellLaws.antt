@@ -1,4 +1,4 @@
--- The laws of `Fell` and `Answer` of specs/Fell.antt: one for each return of `fall`, from the laws of a fall in segments_model, and that the answer
+-- The laws of `Fell` and `Answer` of specs/Fell.antt: one for each return of `fall`, from the laws of a fall and of its note in segments_model, and that the answer
 -- says which of the three cases holds of the slack before (`answer-clash`, `answer-reached`, `answer-quiet`).
 -- No contract cites this file. Assumes nothing.
 use mathlib.Core.Path.{_≡_, refl, ap, _∙_}
@@ -12,6 +12,7 @@ use lib.ListN.{length, getD, set, length-set}
 use Rattle.segments_model.specs.Fall.{MoreThan, Meets}
 use Rattle.segments_model.specs.Search.{Next, Previous}
 use Rattle.segments_model.proofs.FallenLaws.{clashed, quiet-none, quiet-less, quiet-join, reached-spend}
+use Rattle.segments_model.proofs.RaiseLaws.{reversal-none, reversal-less, reversal-join, reversal-spend}
 use Rattle.segments.specs.declared.Hit.{Hit}
 use Rattle.segments.specs.declared.Hit.the-variants.{Quiet, Clash, Reached}
 use Rattle.segments.specs.Fell.{Answer, Fell}
@@ -20,36 +21,46 @@ use Rattle.segments.specs.Fell.{Answer, Fell}
 
 module _ (n slot : ℕ) (l : List ℕ) where
   pub fell-clash : slot < getD l 0 0 → Fell n slot l l Clash
-  fell-clash slot<z = record { size = refl; inside = tt; answer = λ C f held. clashed slot held slot<z }
+  fell-clash slot<z = record { size = refl; inside = tt; answer = λ C f held. clashed slot held slot<z; reverses = slot<z }
 
-  module _ (free : getD l 0 0 ≤ slot) {t : ℕ} (next : Next n slot l t) where
-    pub fell-none : n < t → Fell n slot l l Quiet
-    fell-none n<t = record { size = refl; inside = tt; answer = λ C f held. quiet-none slot held free next n<t }
+  module _ (slot≤n : slot ≤ n) (free : getD l 0 0 ≤ slot) {t : ℕ} (next : Next n slot l t) where
+    pub fell-none : n < t → Fell n slot l l (Quiet 0)
+    fell-none n<t =
+        record {
+          size = refl;
+          inside = tt;
+          answer = λ C f held. quiet-none slot held free next n<t;
+          reverses = reversal-none n slot l slot≤n free next n<t;
+        }
 
     module _ (t≤n : t ≤ n) (n<len : n < length l) where
-      pub fell-less : (l′ : List ℕ) → 1 < getD l t 0 → l′ ≡ set l t (getD l t 0 - 1) → Fell n slot l l′ Quiet
-      fell-less l′ more stored =
+      pub fell-less : (l′ : List ℕ) (d : ℕ) → d ≡ getD l t 0 → 1 < d → d < 65536 → l′ ≡ set l t (d - 1) → Fell n slot l l′ (Quiet 0)
+      fell-less l′ d d-is more small stored =
+          let more′ : 1 < getD l t 0 = omega arith in
           record {
             size = ap length stored ∙ simp length-set;
             inside = tt;
-            answer = λ C f held. rw stored (quiet-less slot held free next t≤n n<len more);
+            answer = λ C f held. rw (stored, d-is) (quiet-less slot held free next t≤n n<len more′);
+            reverses = rw (stored, d-is) (reversal-less n slot l slot≤n free next t≤n n<len more′ (omega arith));
           }
 
       module _ (one-left : getD l t 0 ≡ 1) {p : ℕ} (prev : Previous slot l p) (l′ : List ℕ) where
-        pub fell-join : 0 < p → l′ ≡ set (set l t (getD l p 0)) p 0 → Fell n slot l l′ Quiet
+        pub fell-join : 0 < p → l′ ≡ set (set l t (getD l p 0)) p 0 → Fell n slot l l′ (Quiet p)
         fell-join 0<p stored =
             record {
               size = ap length stored ∙ simp length-set;
               inside = tt;
               answer = λ C f held. rw stored (quiet-join slot held free next t≤n n<len one-left prev 0<p);
+              reverses = rw stored (reversal-join n slot l slot≤n free next t≤n n<len one-left prev 0<p);
             }
 
-        pub fell-spend : p ≡ 0 → l′ ≡ set (set l t 0) 0 t → Fell n slot l l′ (Reached t)
-        fell-spend none stored =
+        pub fell-spend : {z : ℕ} → p ≡ 0 → z ≡ getD l 0 0 → l′ ≡ set (set l t 0) 0 t → Fell n slot l l′ (Reached t z)
+        fell-spend none z-is stored =
             record {
               size = ap length stored ∙ simp length-set;
               inside = t≤n;
               answer = λ C f held. rw stored (reached-spend slot held free next t≤n n<len one-left prev none);
+              reverses = rw (stored, z-is) (reversal-spend n slot l slot≤n free next t≤n n<len one-left);
             }
 
 -- ---- Answer
@@ -57,30 +68,30 @@ module _ (n slot : ℕ) (l : List ℕ) where
 module _ (n slot : ℕ) (C : ℕ → Bool) (f : ℕ → ℕ) (l l′ : List ℕ) where
   -- a corner after the slot lacks slack: Clash
   pub answer-clash : (r : Hit) → Answer n C f slot l l′ r → (u : ℕ) → Meets n C f slot 0 u → r ≡ Clash
-  answer-clash Quiet quiet u meets = absurd (omega (arith, meets .slack, quiet .more u (meets .after) (meets .inside) (meets .corner)))
+  answer-clash (Quiet x) quiet u meets = absurd (omega (arith, meets .slack, quiet .more u (meets .after) (meets .inside) (meets .corner)))
   answer-clash Clash clash u meets = refl
-  answer-clash (Reached t) reached u meets = absurd (omega (arith, meets .slack, reached .more u (meets .after) (meets .inside) (meets .corner)))
+  answer-clash (Reached t x) reached u meets = absurd (omega (arith, meets .slack, reached .more u (meets .after) (meets .inside) (meets .corner)))
 
   -- none does, and one has a slack of 1: Reached, at the last such
   pub answer-reached : (r : Hit) → Answer n C f slot l l′ r → (u : ℕ) → Meets n C f slot 1 u → MoreThan n C f slot 0 → MoreThan n C f u 1
-      → r ≡ Reached u
-  answer-reached Quiet quiet u meets more last = absurd (omega (arith, meets .slack, quiet .more u (meets .after) (meets .inside) (meets .corner)))
+      → (x : ℕ) × (r ≡ Reached u x)
+  answer-reached (Quiet x) quiet u meets more last = absurd (omega (arith, meets .slack, quiet .more u (meets .after) (meets .inside) (meets .corner)))
   answer-reached Clash clash u meets more last =
       let at = clash .meets in
       absurd (omega (arith, at .slack, more (getD l 0 0) (at .after) (at .inside) (at .corner)))
-  answer-reached (Reached t) reached u meets more last =
+  answer-reached (Reached t x) reached u meets more last =
       let at = reached .meets in
       dite (decLt t u) (λ t<u. absurd (omega (arith, meets .slack, reached .past u t<u (meets .inside) (meets .corner))))
       (λ u≤t.
       dite (decLt u t) (λ u<t. absurd (omega (arith, at .slack, last t u<t (at .inside) (at .corner))))
-      (λ t≤u. let e : t ≡ u = omega arith in ap Reached e))
+      (λ t≤u. let e : t ≡ u = omega arith in (x, ap (λ (w : ℕ). Reached w x) e)))
 
   -- all have more: Quiet
-  pub answer-quiet : (r : Hit) → Answer n C f slot l l′ r → MoreThan n C f slot 1 → r ≡ Quiet
-  answer-quiet Quiet quiet more = refl
+  pub answer-quiet : (r : Hit) → Answer n C f slot l l′ r → MoreThan n C f slot 1 → (x : ℕ) × (r ≡ Quiet x)
+  answer-quiet (Quiet x) quiet more = (x, refl)
   answer-quiet Clash clash more =
       let at = clash .meets in
       absurd (omega (arith, at .slack, more (getD l 0 0) (at .after) (at .inside) (at .corner)))
-  answer-quiet (Reached t) reached more =
+  answer-quiet (Reached t x) reached more =
       let at = reached .meets in
       absurd (omega (arith, at .slack, more t (at .after) (at .inside) (at .corner)))

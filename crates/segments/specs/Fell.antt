@@ -1,29 +1,37 @@
--- What `fall` does to the cells, by its answer. The answers' meaning is in `specs/Fall.antt` of segments_model.
+-- What `fall` does to the cells, by its answer. The answers' meaning is in `specs/Fall.antt` of segments_model, that of the note in `specs/Raise.antt`.
 --   Inside n r             the prefix that the answer names, if any, is at most n
 --   Answer n C f slot ..   the answer, for corners C and the slack f before the fall
---   Fell n slot ..         the cells keep their number, and the answer holds for each C and f that the cells hold
+--   Reverses n slot ..     the answer's note takes the fall back; or there was none, since the slot is before the spent corner
+--   Fell n slot ..         the cells keep their number, the answer holds for each C and f that the cells hold, and its note takes the fall back
 -- Assumes nothing.
 use mathlib.Core.Path.{_≡_}
 use mathlib.Core.Bool.{Bool}
 use mathlib.Core.List.{List}
-use Prim.Native.Nat.{ℕ, _≤_}
-use lib.ListN.{length}
+use Prim.Native.Nat.{ℕ, _≤_, _<_}
+use lib.ListN.{length, getD}
 use Rattle.segments_model.specs.Cells.{Cells}
 use Rattle.segments_model.specs.Fall.{Quieted, Clashed, ReachedAt}
+use Rattle.segments_model.specs.Raise.{Reversal}
 use Rattle.segments.specs.declared.Hit.{Hit}
 use Rattle.segments.specs.declared.Hit.the-variants.{Quiet, Clash, Reached}
 
 abbrev pub Inside : ℕ → Hit → Type 0
-Inside n Quiet = Unit {0}
+Inside n (Quiet x) = Unit {0}
 Inside n Clash = Unit {0}
-Inside n (Reached t) = t ≤ n
+Inside n (Reached t x) = t ≤ n
 
 abbrev pub Answer : ℕ → (ℕ → Bool) → (ℕ → ℕ) → ℕ → List ℕ → List ℕ → Hit → Type 0
-Answer n C f slot cells cells′ Quiet = Quieted n C f slot cells′
+Answer n C f slot cells cells′ (Quiet x) = Quieted n C f slot cells′
 Answer n C f slot cells cells′ Clash = Clashed n C f slot cells cells′
-Answer n C f slot cells cells′ (Reached t) = ReachedAt n C f slot cells′ t
+Answer n C f slot cells cells′ (Reached t x) = ReachedAt n C f slot cells′ t
+
+abbrev pub Reverses : ℕ → ℕ → List ℕ → List ℕ → Hit → Type 0
+Reverses n slot cells cells′ (Quiet x) = Reversal n slot x cells cells′
+Reverses n slot cells cells′ Clash = slot < getD cells 0 0
+Reverses n slot cells cells′ (Reached t x) = Reversal n slot x cells cells′
 
 pub record Fell (n slot : ℕ) (cells cells′ : List ℕ) (r : Hit) : Type 0 where
   pub size : length cells′ ≡ length cells
   pub inside : Inside n r
   pub answer : (C : ℕ → Bool) (f : ℕ → ℕ) → Cells n C f cells → Answer n C f slot cells cells′ r
+  pub reverses : Reverses n slot cells cells′ r

@@ -1,5 +1,5 @@
 // The segments of one value and one kind of bound, kept in one cell for each prefix from 0 to n: built from the bound's rises and the masks,
-// brought up to date when the slack falls by one after a slot, and counted. `lower` is the kind: true for the lower bound. Nothing is refused
+// brought up to date when the slack falls by one after a slot, put back as they were before such a fall, and counted. `lower` is the kind: true for the lower bound. Nothing is refused
 // here. The contracts cite `specs/Fell.antt` and `specs/Built.antt`, and the definitions of segments_model.
 ghost use mathlib.Core.Path.{_≡_};
 ghost use mathlib.Core.Bool.{cond};
@@ -11,16 +11,18 @@ ghost use Rattle.domains.specs.Counts.{bit};
 ghost use Rattle.segments_model.specs.Build.{Inserted, Counts};
 ghost use Rattle.segments_model.specs.Cells.{standingIn};
 ghost use Rattle.segments_model.specs.Lines.{lineOf, cornerOf, tick};
-ghost use Rattle.segments_model.specs.Part.{part, Lent};
+ghost use Rattle.segments_model.specs.Part.{part, over, Lent};
+ghost use Rattle.segments_model.specs.Raise.{risen, Raisable};
 ghost use Rattle.segments_model.specs.Search.{Gap, Next, Previous};
 ghost use Rattle.segments.specs.Built.{Visit, Built};
 ghost use Rattle.segments.specs.Fell.{Fell};
 
-// What a fall of the slack meets: no corner loses its last slack; a corner has none to lose; the last corner that loses its last slack.
+// What a fall of the slack meets: no corner loses its last slack; a corner has none to lose; the last corner that loses its last slack. The last
+// number is the note by which `raise` takes the fall back.
 pub enum Hit {
-    Quiet,
+    Quiet(usize),
     Clash,
-    Reached(usize),
+    Reached(usize, usize),
 }
 
 // How the building goes on after a prefix: its corner lacks slack, or the first right end is at a place.
@@ -76,20 +78,21 @@ pub fn fall(cells: &mut [u16], n: usize, slot: usize) -> Hit
     }
     let t = next_standing(cells, n, slot);
     if n < t {
-        return Hit::Quiet;
+        return Hit::Quiet(0);
     }
-    let d = cells[t];
+    let d = wide(cells[t]);
     if 1 < d {
-        cells[t] = d - 1;
-        return Hit::Quiet;
+        cells[t] = (d - 1) as u16;
+        return Hit::Quiet(0);
     }
     let p = previous_standing(cells, slot);
     if p == 0 {
+        let z = wide(cells[0]);
         spend(cells, t);
-        return Hit::Reached(t);
+        return Hit::Reached(t, z);
     }
     join(cells, p, t);
-    Hit::Quiet
+    Hit::Quiet(p)
 }
 
 // The same for the n + 1 cells from `base` on of a longer list, whose other cells stay.
@@ -99,6 +102,36 @@ pub fn fall_in(cells: &mut [u16], base: usize, n: usize, slot: usize) -> Hit
 {
     let end = base + n + 1;
     fall(&mut cells[base..end], n, slot)
+}
+
+// Takes a fall after the slot back, by the note that it left: the cells are as they were before it.
+pub fn raise(cells: &mut [u16], n: usize, slot: usize, note: usize)
+    requires { ⌜ (slot ≤ n) × (n < length (now cells)) × (n < 65536) × Raisable n slot note (now cells) ⌝ }
+    ensures { λ _. ⌜ now (cells .exit) ≡ risen n slot note (now (cells .entry)) ⌝ }
+{
+    let z = wide(cells[0]);
+    if slot < z {
+        unspend(cells, z, note);
+        return;
+    }
+    let t = next_standing(cells, n, slot);
+    if n < t {
+        return;
+    }
+    if note == 0 {
+        cells[t] = cells[t] + 1;
+        return;
+    }
+    split(cells, note, t);
+}
+
+// The same for the n + 1 cells from `base` on of a longer list, whose other cells stay.
+pub fn raise_in(cells: &mut [u16], base: usize, n: usize, slot: usize, note: usize)
+    requires { ⌜ (slot ≤ n) × (base + n < length (now cells)) × (n < 65536) × Raisable n slot note (part base (n + 1) (now cells)) ⌝ }
+    ensures { λ _. ⌜ now (cells .exit) ≡ over base (n + 1) (risen n slot note) (now (cells .entry)) ⌝ }
+{
+    let end = base + n + 1;
+    raise(&mut cells[base..end], n, slot, note);
 }
 
 // How many segments the cells hold.
@@ -172,6 +205,24 @@ fn join(cells: &mut [u16], p: usize, t: usize)
 {
     cells[t] = cells[p];
     cells[p] = 0;
+}
+
+// The segment that was spent up to t stands again, and the spent corner is z.
+fn unspend(cells: &mut [u16], t: usize, z: usize)
+    requires { ⌜ (t < length (now cells)) × (z < 65536) ⌝ }
+    ensures { λ _. ⌜ now (cells .exit) ≡ set (set (now (cells .entry)) t 1) 0 z ⌝ }
+{
+    cells[t] = 1;
+    cells[0] = z as u16;
+}
+
+// The segment that ends at t is parted again from the one that ends at p.
+fn split(cells: &mut [u16], p: usize, t: usize)
+    requires { ⌜ (p < length (now cells)) × (t < length (now cells)) ⌝ }
+    ensures { λ _. ⌜ now (cells .exit) ≡ set (set (now (cells .entry)) p (getD (now (cells .entry)) t 0)) t 1 ⌝ }
+{
+    cells[p] = cells[t];
+    cells[t] = 1;
 }
 
 // Empties the cells up to n.

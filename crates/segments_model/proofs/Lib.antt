@@ -10,6 +10,7 @@ pub mod JoinLaws
 pub mod LinesLaws
 pub mod LowestLaws
 pub mod PartLaws
+pub mod RaiseLaws
 pub mod SearchLaws
 pub mod SlackLaws
 pub mod StandingLaws

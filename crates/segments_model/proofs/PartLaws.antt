@@ -1,14 +1,18 @@
--- The laws of specs/Part.antt: a part that was lent and came back (`lent`), and a part that lies apart from it (`lent-apart`).
+-- The laws of specs/Part.antt: a part that was lent and came back (`lent`), a part that lies apart from it (`lent-apart`), and a part to which a
+-- function was applied (`over-lent`), or is to be applied to have the list as it was (`over-back`).
 -- No contract cites this file. Assumes nothing.
-use mathlib.Core.Path.{_≡_, sym, ap, _∙_}
+use mathlib.Core.Path.{_≡_, refl, sym, ap, _∙_}
 use mathlib.Core.Logic.{_⊎_, ⊎-elim}
 use mathlib.Core.List.{List, _++_}
 use Prim.Native.Nat.{ℕ, _+_, _-_, _≤_, _<_}
 use native.Mathlib.Omega.{arith}
 use lib.ListN.{length, getD, take, drop, length-drop}
-use lib.Seq.{take-at, drop-at, length-take-le, getD-take, getD-drop, ext-getD}
-use borrow.Rule.Slice.PartMut.{midOf, postOf, putMid, same-len-mid, mid-len, take-put, drop-put}
-use Rattle.segments_model.specs.Part.{part, Lent}
+use lib.Seq.{take-at, drop-at, length-take-le, getD-take, getD-drop, drop-drop, ext-getD}
+use borrow.Rule.Slice.PartMut.{midOf, postOf, putMid, same-len-mid, mid-len, put-same, take-put, drop-put}
+use Rattle.segments_model.specs.Part.{part, over, Lent}
+
+pub lent-map : {base j : ℕ} {P Q : List ℕ → List ℕ → Type 0} {l l′ : List ℕ} → ((a b : List ℕ) → P a b → Q a b) → Lent base j P l l′ → Lent base j Q l l′
+lent-map P-Q lent = record { does = P-Q _ _ (lent .does); size = lent .size; before = lent .before; after = lent .after }
 
 -- ---- a part that came back
 
@@ -43,6 +47,10 @@ lent base n P l ys inside kept does =
       after = λ i past. put-after base (base + n + 1) l ys (omega arith) (omega arith) size i (omega arith);
     }
 
+-- what is known of the n + 1 cells from base on is known of what is lent
+pub part-mid : (base n : ℕ) (P : List ℕ → Type 0) (l : List ℕ) → P (part base (n + 1) l) → P (midOf base (base + n + 1 - base) l)
+part-mid base n P l known = let k : base + n + 1 - base ≡ n + 1 = omega arith in rw k known
+
 -- ---- a part that lies apart
 
 part-at : (a k : ℕ) (l : List ℕ) (i : ℕ) → i < k → getD (part a k l) i 0 ≡ getD l (a + i) 0
@@ -60,3 +68,33 @@ lent-apart {l = l} {l′ = l′} came a j inside apart =
     part-at a j l′ i i<j
     ∙ ⊎-elim (λ left. came .before (a + i) (omega arith)) (λ right. came .after (a + i) (omega arith)) apart
     ∙ sym (part-at a j l i i<j))
+
+-- ---- a function over a part
+
+module _ {base k : ℕ} {P : List ℕ → List ℕ → Type 0} {l l′ : List ℕ} (came : Lent base k P l l′) (inside : base + k ≤ length l) where
+  lent-front : take base l′ ≡ take base l
+  lent-front =
+      ext-getD 0 (take base l′) (take base l)
+      (length-take-le base l′ (omega (arith, came .size)) ∙ sym (length-take-le base l (omega arith)))
+      (λ i i<len.
+      let i<base : i < base = omega (arith, length-take-le base l′ (omega (arith, came .size))) in
+      getD-take base l′ i 0 i<base ∙ came .before i i<base ∙ sym (getD-take base l i 0 i<base))
+
+  lent-rest : drop k (drop base l′) ≡ drop k (drop base l)
+  lent-rest =
+      drop-drop k base l′
+      ∙ ext-getD 0 (drop (base + k) l′) (drop (base + k) l) (omega (arith, length-drop (base + k) l′, length-drop (base + k) l, came .size))
+      (λ i i<len. getD-drop (base + k) l′ i 0 ∙ came .after (base + k + i) (omega arith) ∙ sym (getD-drop (base + k) l i 0))
+      ∙ sym (drop-drop k base l)
+
+  -- the rest of the list being as it was, its part tells the list
+  lent-put : (ys : List ℕ) → take base l′ ++ (ys ++ drop k (drop base l′)) ≡ putMid base k l ys
+  lent-put ys = rw (lent-front, lent-rest) refl
+
+pub over-lent : (base k : ℕ) (f : List ℕ → List ℕ) {l l′ : List ℕ} → base + k ≤ length l → Lent base k (λ a b. b ≡ f a) l l′ → l′ ≡ over base k f l
+over-lent base k f {l} {l′} inside came =
+    sym (put-same base k l′) ∙ lent-put came inside (part base k l′) ∙ ap (λ (ys : List ℕ). putMid base k l ys) (came .does)
+
+pub over-back : (base k : ℕ) (f : List ℕ → List ℕ) {l l′ : List ℕ} → base + k ≤ length l → Lent base k (λ a b. f b ≡ a) l l′ → over base k f l′ ≡ l
+over-back base k f {l} {l′} inside came =
+    lent-put came inside (f (part base k l′)) ∙ ap (λ (ys : List ℕ). putMid base k l ys) (came .does) ∙ put-same base k l

@@ -4,4 +4,5 @@ pub mod Covers
 pub mod Fall
 pub mod Lines
 pub mod Part
+pub mod Raise
 pub mod Search

@@ -2,8 +2,8 @@
 -- left. Assumes nothing.
 use mathlib.Core.Path.{refl}
 use native.Mathlib.Omega.{arith}
-use Rattle.segments.proofs.FellLaws.{fell-clash, fell-none, fell-less, fell-join, fell-spend}
 use borrow.Author.Needs.{needs}
+use Rattle.segments.proofs.FellLaws.{fell-clash, fell-none, fell-less, fell-join, fell-spend}
 use Rattle.segments.proofs.fall.Statement.{statement}
 use Rattle.segments.proofs.fall.Tie as tie
 
@@ -14,7 +14,8 @@ wide-requires : tie.Need-wide-requires
 wide-requires c κs = search needs
 
 returns : tie.Need-returns
-returns c = fell-clash _ _ _ (omega arith)
+returns c =
+    fell-clash _ _ _ (omega arith)
 
 next-standing-requires : tie.Need-next-standing-requires
 next-standing-requires c κs = search needs
@@ -23,16 +24,23 @@ same-length : tie.Need-same-length
 same-length c = search needs
 
 returns-2 : tie.Need-returns-2
-returns-2 c = fell-none _ _ _ (omega arith) (c .before .next-standing .ensures) (omega arith)
+returns-2 c =
+    fell-none _ _ _ (c .before .before .before .before .before .before .before .pre .0) (omega arith) (c .before .next-standing .ensures) (omega arith)
 
-mul-d : tie.Need-mul-d
-mul-d c = search needs
+mul-wide : tie.Need-mul-wide
+mul-wide c = search needs
 
-slice-read-d : tie.Need-slice-read-d
-slice-read-d c = search needs
+slice-read-wide-2 : tie.Need-slice-read-wide-2
+slice-read-wide-2 c = search needs
+
+wide-requires-2 : tie.Need-wide-requires-2
+wide-requires-2 c κs = search needs
 
 sub-cells : tie.Need-sub-cells
 sub-cells c = search needs
+
+cast-cells : tie.Need-cast-cells
+cast-cells c = search needs
 
 mul-cells : tie.Need-mul-cells
 mul-cells c = search needs
@@ -44,10 +52,18 @@ same-length-2 : tie.Need-same-length-2
 same-length-2 c = search needs
 
 returns-3 : tie.Need-returns-3
-returns-3 c = fell-less _ _ _ (omega arith) (c .before .before .before .next-standing .ensures) (omega arith) (omega arith) _ (omega arith) refl
+returns-3 c =
+    let d = c .before .wide2 .ensures in
+    fell-less _ _ _ (c .before .before .before .before .before .before .before .before .before .before .pre .0) (omega arith) (c .before .before .before .before .next-standing .ensures) (omega arith) (omega arith) _ _ (d .0) (omega arith) (d .1) refl
 
 previous-standing-requires : tie.Need-previous-standing-requires
 previous-standing-requires c κs = search needs
+
+slice-read-wide-3 : tie.Need-slice-read-wide-3
+slice-read-wide-3 c = search needs
+
+wide-requires-3 : tie.Need-wide-requires-3
+wide-requires-3 c κs = search needs
 
 spend-requires : tie.Need-spend-requires
 spend-requires c κs = search needs
@@ -57,10 +73,11 @@ same-length-3 c = search needs
 
 returns-4 : tie.Need-returns-4
 returns-4 c =
-    let previous = c .before .before .before .before .before .previous-standing .ensures in
-    let next = c .before .before .before .before .before .before .before .before .before .before .next-standing .ensures in
+    let next = c .before .before .before .before .before .before .before .before .before .before .before .before .before .next-standing .ensures in
+    let d = c .before .before .before .before .before .before .before .before .before .before .wide2 .ensures in
     let one-left = next .stands (omega arith) in
-    fell-spend _ _ _ (omega arith) next (omega arith) (omega arith) (omega arith) previous _ (omega arith) (c .before .before .spend .ensures)
+    fell-spend _ _ _ (c .before .before .before .before .before .before .before .before .before .before .before .before .before .before .before .before .before .before .before .pre .0) (omega arith) next (omega arith) (omega arith) (omega (arith, d .0, one-left)) (c .before .before .before .before .before .before .before .previous-standing .ensures) _ (omega arith)
+    (c .before .before .before .before .wide3 .ensures .0) (c .before .before .spend .ensures)
 
 join-requires : tie.Need-join-requires
 join-requires c κs = search needs
@@ -70,10 +87,11 @@ same-length-4 c = search needs
 
 returns-5 : tie.Need-returns-5
 returns-5 c =
-    let previous = c .before .before .before .before .before .previous-standing .ensures in
-    let next = c .before .before .before .before .before .before .before .before .before .before .next-standing .ensures in
+    let next = c .before .before .before .before .before .before .before .before .before .before .before .next-standing .ensures in
+    let d = c .before .before .before .before .before .before .before .before .wide2 .ensures in
     let one-left = next .stands (omega arith) in
-    fell-join _ _ _ (omega arith) next (omega arith) (omega arith) (omega arith) previous _ (omega arith) (c .before .before .join .ensures)
+    fell-join _ _ _ (c .before .before .before .before .before .before .before .before .before .before .before .before .before .before .before .before .before .pre .0) (omega arith) next (omega arith) (omega arith) (omega (arith, d .0, one-left)) (c .before .before .before .before .before .previous-standing .ensures) _ (omega arith)
+    (c .before .before .join .ensures)
 
 pub fall-spec : {M : Type 1} → statement M
 fall-spec =
@@ -85,14 +103,18 @@ fall-spec =
     next-standing-requires
     same-length
     returns-2
-    mul-d
-    slice-read-d
+    mul-wide
+    slice-read-wide-2
+    wide-requires-2
     sub-cells
+    cast-cells
     mul-cells
     slice-write-cells
     same-length-2
     returns-3
     previous-standing-requires
+    slice-read-wide-3
+    wide-requires-3
     spend-requires
     same-length-3
     returns-4
