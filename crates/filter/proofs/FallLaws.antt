@@ -7,62 +7,66 @@ use Prim.Native.Nat.{ℕ, _+_, _≤_, zero-le}
 use native.Mathlib.Omega.{arith}
 use Rattle.segments_model.specs.Cells.{Cells}
 use Rattle.segments_model.specs.Part.{Lent}
-use Rattle.segments.specs.Fell.{Inside, Answer, Fell}
+use Rattle.segments_model.proofs.PartLaws.{lent-map}
+use Rattle.segments.specs.Fell.{Inside, Answer, Reverses, Fell}
 use Rattle.segments.specs.declared.Hit.{Hit}
 use Rattle.segments.specs.declared.Hit.the-variants.{Quiet, Clash, Reached}
 use Rattle.filter_model.specs.Strike.{Dropped}
-
-lent-map : {base j : ℕ} {P Q : List ℕ → List ℕ → Type 0} {l l′ : List ℕ} → ((a b : List ℕ) → P a b → Q a b) → Lent base j P l l′ → Lent base j Q l l′
-lent-map P-Q lent = record { does = P-Q _ _ (lent .does); size = lent .size; before = lent .before; after = lent .after }
 
 module _ (n slot : ℕ) (a b : List ℕ) {r : Hit} (fell : Fell n slot a b r) where
   answer-at : (r′ : Hit) → r ≡ r′ → (C : ℕ → Bool) (f : ℕ → ℕ) → Cells n C f a → Answer n C f slot a b r′
   answer-at r′ is C f held = subst (λ (h : Hit). Answer n C f slot a b h) is (fell .answer C f held)
 
-  quiet-drops : r ≡ Quiet → Dropped n slot a b 0
-  quiet-drops is =
+  reverses-at : (r′ : Hit) → r ≡ r′ → Reverses n slot a b r′
+  reverses-at r′ is = subst (λ (h : Hit). Reverses n slot a b h) is (fell .reverses)
+
+  quiet-drops : (x : ℕ) → r ≡ Quiet x → Dropped n slot a b 0 x
+  quiet-drops x is =
       record {
         size = fell .size;
         inside = zero-le;
         reach = λ C f held free.
-            let quieted = answer-at Quiet is C f held in
+            let quieted = answer-at (Quiet x) is C f held in
             record {
               cells = quieted .cells;
               more = λ u slot<u u≤n corner. omega (arith, quieted .more u slot<u u≤n corner);
               past = λ u slot<u 0<u u≤n corner. quieted .more u slot<u u≤n corner;
               meets = λ 0<0. absurd (omega arith);
             };
+        back = λ free. reverses-at (Quiet x) is;
       }
 
-  clash-drops : r ≡ Clash → Dropped n slot a b 0
+  clash-drops : r ≡ Clash → Dropped n slot a b 0 0
   clash-drops is =
       record {
         size = fell .size;
         inside = zero-le;
         reach = λ C f held free. absurd (omega (arith, free, answer-at Clash is C f held .meets .after));
+        back = λ free. absurd (omega (arith, free, reverses-at Clash is));
       }
 
-  reached-drops : (t : ℕ) → r ≡ Reached t → Dropped n slot a b t
-  reached-drops t is =
+  reached-drops : (t x : ℕ) → r ≡ Reached t x → Dropped n slot a b t x
+  reached-drops t x is =
       record {
         size = fell .size;
         inside = subst (λ (h : Hit). Inside n h) is (fell .inside);
         reach = λ C f held free.
-            let reached = answer-at (Reached t) is C f held in
+            let reached = answer-at (Reached t x) is C f held in
             record {
               cells = reached .cells;
               more = reached .more;
               past = λ u slot<u t<u u≤n corner. reached .past u t<u u≤n corner;
               meets = λ 0<t. reached .meets;
             };
+        back = λ free. reverses-at (Reached t x) is;
       }
 
 module _ {base n slot : ℕ} {l l′ : List ℕ} {r : Hit} (lent : Lent base (n + 1) (λ a b. Fell n slot a b r) l l′) where
-  pub dropped-quiet : r ≡ Quiet → Lent base (n + 1) (λ a b. Dropped n slot a b 0) l l′
-  dropped-quiet is = lent-map (λ a b fell. quiet-drops n slot a b fell is) lent
+  pub dropped-quiet : {x : ℕ} → r ≡ Quiet x → Lent base (n + 1) (λ a b. Dropped n slot a b 0 x) l l′
+  dropped-quiet {x} is = lent-map (λ a b fell. quiet-drops n slot a b fell x is) lent
 
-  pub dropped-clash : r ≡ Clash → Lent base (n + 1) (λ a b. Dropped n slot a b 0) l l′
+  pub dropped-clash : r ≡ Clash → Lent base (n + 1) (λ a b. Dropped n slot a b 0 0) l l′
   dropped-clash is = lent-map (λ a b fell. clash-drops n slot a b fell is) lent
 
-  pub dropped-reached : {t : ℕ} → r ≡ Reached t → Lent base (n + 1) (λ a b. Dropped n slot a b t) l l′
-  dropped-reached {t} is = lent-map (λ a b fell. reached-drops n slot a b fell t is) lent
+  pub dropped-reached : {t x : ℕ} → r ≡ Reached t x → Lent base (n + 1) (λ a b. Dropped n slot a b t x) l l′
+  dropped-reached {t} {x} is = lent-map (λ a b fell. reached-drops n slot a b fell t x is) lent

@@ -18,7 +18,7 @@ filtered-at {n} {k} {Q} {G} {m₀} {c₀} {t₀} {m₁} {c₁} {t₁} {h₀} is 
 pub filtered-refl : {n k : ℕ} {Q G : List ℕ → Type 0} (m c t : List ℕ) (h : ℕ) → G m → Filtered n k Q G m c t h m c t (Live h)
 filtered-refl {n} {k} m c t h goal =
     record {
-      moved = moved-refl m c t h;
+      moved = moved-refl n k m c t h;
       mirror = λ T mirror. mirror;
       progress = λ live T mirror. progress-refl n k T m;
       keeps = λ T mirror N stable N⊆m cut. N⊆m;

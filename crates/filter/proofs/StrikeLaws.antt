@@ -38,11 +38,11 @@ strike-absent m c t top slot v absent = filtered-refl m c t top (record { lacks 
 
 pub strike-contradicted : {n k : ℕ} {G : List ℕ → Type 0} {m c t m′ c′ t′ : List ℕ} {top slot v : ℕ} → Contradicted n k m c t m′ c′ t′ slot v
     → Filtered n k (StrikeCut slot v) G m c t top m′ c′ t′ (Dead top)
-strike-contradicted {m = m} {c = c} {t = t} {top = top} contradicted =
+strike-contradicted {n = n} {k = k} {m = m} {c = c} {t = t} {top = top} contradicted =
     let dead = contradicted .dead in
     rw (contradicted .masks-same, contradicted .cells-same, contradicted .trail-same)
     (record {
-      moved = moved-refl m c t top;
+      moved = moved-refl n k m c t top;
       mirror = λ T mirror. mirror;
       progress = λ no. absurd no;
       keeps = dead;

@@ -34,7 +34,7 @@ Held N M (Dead h) = ⊥
 
 pub record Filtered (n k : ℕ) (Q G : List ℕ → Type 0) (masks cells trail : List ℕ) (top : ℕ) (masks′ cells′ trail′ : List ℕ)
     (r : Outcome) : Type 0 where
-  pub moved : Moved masks cells trail top masks′ cells′ trail′ (heightOf r)
+  pub moved : Moved n k masks cells trail top masks′ cells′ trail′ (heightOf r)
   pub mirror : (T : Table) → Mirror n k T masks cells → Mirror n k T masks′ cells′
   pub progress : Lived r → (T : Table) → Mirror n k T masks cells → Progress n k T masks masks′
   pub keeps : (T : Table) → Mirror n k T masks cells → (N : List ℕ) → Stable (tableBounds n k T) N → Subset N masks → Q N → Held N masks′ r

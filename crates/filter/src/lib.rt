@@ -11,7 +11,7 @@ ghost use Rattle.segments_model.specs.Part.{Lent};
 ghost use Rattle.filter_model.specs.Cuts.{StrikeCut, FixCut, SlotCut, BoundCut};
 ghost use Rattle.filter_model.specs.State.{Ready, Pruning};
 ghost use Rattle.filter_model.specs.Strike.{Dropped};
-ghost use Rattle.filter_model.specs.Trail.{entry};
+ghost use Rattle.filter_model.specs.Trail.{written};
 ghost use Rattle.filter.specs.Filtered.{Filtered, Removal·Answer, Free};
 
 // The trail's height after a call, and whether a stable list may be left.
@@ -27,11 +27,17 @@ enum Removal {
     Made(usize, usize, u32),
 }
 
+// A row's fall: the end before which all must be settled, or 0; and the note by which the fall is taken back.
+struct Descent {
+    reach: usize,
+    note: usize,
+}
+
 // Cuts the slot to value v, with all that follows.
 pub fn fix(
     masks: &mut [u32],
     cells: &mut [u16],
-    trail: &mut [u16],
+    trail: &mut [u8],
     n: usize,
     k: u32,
     top: usize,
@@ -64,7 +70,7 @@ pub fn fix(
 pub fn strike(
     masks: &mut [u32],
     cells: &mut [u16],
-    trail: &mut [u16],
+    trail: &mut [u8],
     n: usize,
     k: u32,
     top: usize,
@@ -97,7 +103,7 @@ pub fn strike(
 pub fn prune(
     masks: &mut [u32],
     cells: &mut [u16],
-    trail: &mut [u16],
+    trail: &mut [u8],
     n: usize,
     k: u32,
     top: usize,
@@ -131,7 +137,7 @@ pub fn prune(
 fn settle_slot(
     masks: &mut [u32],
     cells: &mut [u16],
-    trail: &mut [u16],
+    trail: &mut [u8],
     n: usize,
     k: u32,
     top: usize,
@@ -161,7 +167,7 @@ pub fn spent(cells: &[u16], row: u32, n: usize) -> usize
 fn strike_one(
     masks: &mut [u32],
     cells: &mut [u16],
-    trail: &mut [u16],
+    trail: &mut [u8],
     n: usize,
     k: u32,
     top: usize,
@@ -181,36 +187,37 @@ fn strike_one(
     }
     if !domains::is_single(m) {
         store(masks, slot, m);
-        push(trail, top, slot, v);
-        let a = fall_row(cells, v, n, slot);
-        return Removal::Made(a, 0, 0);
+        let low = fall_row(cells, v, n, slot);
+        push(trail, n, top, slot, v, low.note);
+        return Removal::Made(low.reach, 0, 0);
     }
     let w = domains::single_value(m);
     if slot < spent(cells, k + w, n) {
         return Removal::Contradiction;
     }
     store(masks, slot, m);
-    push(trail, top, slot, v);
-    let a = fall_row(cells, v, n, slot);
-    let b = fall_row(cells, k + w, n, slot);
-    Removal::Made(a, b, w)
+    let low = fall_row(cells, v, n, slot);
+    push(trail, n, top, slot, v, low.note);
+    let high = fall_row(cells, k + w, n, slot);
+    note_fixed(trail, slot, high.note);
+    Removal::Made(low.reach, high.reach, w)
 }
 
-// Lowers the slack of a row by one after the slot. The end before which all must be settled, or 0.
-fn fall_row(cells: &mut [u16], row: u32, n: usize, slot: usize) -> usize
+// Lowers the slack of a row by one after the slot.
+fn fall_row(cells: &mut [u16], row: u32, n: usize, slot: usize) -> Descent
     requires { ⌜ (slot ≤ n) × (row * (n + 1) + n < length (now cells)) × (n < 65536) ⌝ }
-    ensures { λ r. ⌜ Lent (row * (n + 1)) (n + 1) (λ a b. Dropped n slot a b r) (now (cells .entry)) (now (cells .exit)) ⌝ }
+    ensures { λ r. ⌜ Lent (row * (n + 1)) (n + 1) (λ a b. Dropped n slot a b (r .reach) (r .note)) (now (cells .entry)) (now (cells .exit)) ⌝ }
 {
     let hit = segments::fall_in(cells, row as usize * (n + 1), n, slot);
     match hit {
-        segments::Hit::Quiet => {
-            return 0;
+        segments::Hit::Quiet(x) => {
+            return Descent { reach: 0, note: x };
         }
         segments::Hit::Clash => {
-            return 0;
+            return Descent { reach: 0, note: 0 };
         }
-        segments::Hit::Reached(t) => {
-            return t;
+        segments::Hit::Reached(t, x) => {
+            return Descent { reach: t, note: x };
         }
     }
 }
@@ -250,12 +257,23 @@ fn store(masks: &mut [u32], slot: usize, m: u32)
     masks[slot] = m;
 }
 
-// Writes the struck value on the trail.
-fn push(trail: &mut [u16], top: usize, slot: usize, v: u32)
-    requires { ⌜ (top < length (now trail)) × (slot < 2048) × (v < 32) ⌝ }
-    ensures { λ _. ⌜ now (trail .exit) ≡ set (now (trail .entry)) top (entry slot v) ⌝ }
+// Writes the struck value on the trail, with the note of its lower row's fall.
+fn push(trail: &mut [u8], n: usize, top: usize, slot: usize, v: u32, note: usize)
+    requires { ⌜ (n + 3 * top + 2 < length (now trail)) × (slot < 256) × (v < 32) × (note < 256) ⌝ }
+    ensures { λ _. ⌜ now (trail .exit) ≡ written n (now (trail .entry)) top slot v note ⌝ }
 {
-    trail[top] = (slot * 32 + v as usize) as u16;
+    let p = n + 3 * top;
+    trail[p] = slot as u8;
+    trail[p + 1] = v as u8;
+    trail[p + 2] = note as u8;
+}
+
+// Writes the note of the upper row's fall of the slot's only value.
+fn note_fixed(trail: &mut [u8], slot: usize, note: usize)
+    requires { ⌜ (slot < length (now trail)) × (note < 256) ⌝ }
+    ensures { λ _. ⌜ now (trail .exit) ≡ set (now (trail .entry)) slot note ⌝ }
+{
+    trail[slot] = note as u8;
 }
 
 fn wide(x: u16) -> usize

@@ -1,24 +1,42 @@
--- `Removed` of `specs/State.antt`, from what the parts of a strike did: the store, the push, and the falls of one row (`removed-plain`) or of
--- two (`removed-single`). m is what is left at the slot. No contract cites this file. Assumes nothing.
-use mathlib.Core.Path.{_≡_, sym, ap, _∙_}
+-- `Removed` of `specs/State.antt`, from what the parts of a strike did: the store, the falls of one row (`removed-plain`) or of two
+-- (`removed-single`), and what was written on the trail, by which it is taken back (`taken-plain`, `taken-single`). m is what is left at the slot.
+-- No contract cites this file. Assumes nothing.
+use mathlib.Core.Path.{_≡_, refl, sym, ap, _∙_}
 use mathlib.Core.Bool.{Bool, true, false}
 use mathlib.Core.List.{List}
 use Prim.Native.Nat.{ℕ, _+_, _*_, _≤_, _<_, zero-le}
 use native.Mathlib.Omega.{arith}
 use lib.Count.{ones}
-use lib.ListN.{length, getD, set}
+use lib.ListN.{length, getD, set, length-set}
+use lib.Seq.{getD-set-same}
 use Rattle.domains.specs.Mask.{Fixed, clearBit}
 use Rattle.domains.specs.Masks.{HasAt}
-use Rattle.segments_model.specs.Part.{Lent}
+use Rattle.domains.proofs.MaskLaws.{testBit-clearBit-same, ones-empty, ones-clearBit}
+use Rattle.segments_model.specs.Part.{part, Lent}
+use Rattle.segments_model.specs.Raise.{risen}
+use Rattle.segments_model.proofs.PartLaws.{over-back}
 use Rattle.filter_model.specs.Mirror.{row, cellsOf}
 use Rattle.filter_model.specs.State.{Ready, Moved, Removed}
 use Rattle.filter_model.specs.Strike.{Dropped}
-use Rattle.filter_model.specs.Trail.{entry}
+use Rattle.filter_model.specs.Trail.{written, RowRaised, TakenBack, Trailed}
 use Rattle.filter_model.proofs.ContradictionLaws.{left-in}
-use Rattle.filter_model.proofs.RowLaws.{row-first}
-use Rattle.filter_model.proofs.StateLaws.{moved-strike, ready-slot, ready-value, ready-room}
-use Rattle.filter_model.proofs.StoreLaws.{many-free, strike-lacks}
+use Rattle.filter_model.proofs.RowLaws.{row-inside, row-first, lent-row}
+use Rattle.filter_model.proofs.StateLaws.{moved-strike, ready-slot, ready-room}
+use Rattle.filter_model.proofs.StoreLaws.{many-free, fixed-unique, strike-lacks}
 use Rattle.filter_model.proofs.StruckLaws.{struck-plain, struck-single}
+use Rattle.filter_model.proofs.TrailLaws.{written-size, putIn-strike, trailed-plain, trailed-single}
+
+-- a row's fall is taken back by its note
+row-raised : {n row slot a x : ℕ} {cells cells′ : List ℕ} (rows : ℕ) → Lent (row * (n + 1)) (n + 1) (λ l l′. Dropped n slot l l′ a x) cells cells′
+    → row < rows → rows * (n + 1) ≤ length cells → getD (part (row * (n + 1)) (n + 1) cells) 0 0 ≤ slot → RowRaised n row slot x cells′ cells
+row-raised {n} {row} {slot} {x = x} rows lent row-in fits free =
+    record {
+      raisable = lent .does .back free .raisable;
+      is =
+          sym
+          (over-back (row * (n + 1)) (n + 1) (risen n slot x) (omega (arith, row-inside n rows row row-in))
+          (record { does = lent .does .back free .back; size = lent .size; before = lent .before; after = lent .after }));
+    }
 
 module _ {masks cells trail : List ℕ} {n k top slot v : ℕ} (ready : Ready masks cells trail n k top slot v) (has : HasAt masks slot v)
     (m : ℕ) (m-is : m ≡ clearBit (getD masks slot 0) v) (some : m ≡ 0 → ⊥) where
@@ -26,45 +44,107 @@ module _ {masks cells trail : List ℕ} {n k top slot v : ℕ} (ready : Ready ma
   free : (kind : Bool) (x z : ℕ) → z ≡ getD cells (row kind k x * (n + 1)) 0 → z ≤ slot → getD (cellsOf kind n k x cells) 0 0 ≤ slot
   free kind x z z-is z≤slot = omega (arith, z-is, z≤slot, row-first n (row kind k x) cells)
 
-  module _ {masks′ trail′ : List ℕ} (masks-are : masks′ ≡ set masks slot m) (trail-is : trail′ ≡ set trail top (entry slot v)) where
-    cut-masks : masks′ ≡ set masks slot (clearBit (getD masks slot 0) v)
-    cut-masks = masks-are ∙ ap (λ (x : ℕ). set masks slot x) m-is
+  abbrev after : List ℕ
+  after = set masks slot (clearBit (getD masks slot 0) v)
 
-    moved : (cells′ : List ℕ) → length cells′ ≡ length cells → Moved masks cells trail top masks′ cells′ trail′ (top + 1)
-    moved cells′ size =
-        rw (cut-masks, trail-is)
-        (moved-strike masks cells cells′ trail top slot v (ready-slot ready) (ready-value ready) (ready-room ready has) has
-        (λ none. some (m-is ∙ none)) size)
+  left-at : getD after slot 0 ≡ clearBit (getD masks slot 0) v
+  left-at = getD-set-same masks slot (clearBit (getD masks slot 0) v) 0 (ready-slot ready)
 
-    module _ {cells₁ : List ℕ} {z a : ℕ} (z-is : z ≡ getD cells (v * (n + 1)) 0) (z≤slot : z ≤ slot)
-        (lent₁ : Lent (v * (n + 1)) (n + 1) (λ l l′. Dropped n slot l l′ a) cells cells₁) where
-      pub removed-plain : (ones m ≡ 1 → ⊥) → Removed n k masks cells trail top masks′ cells₁ trail′ slot v a 0 0
-      removed-plain many =
-          record {
-            moved = moved cells₁ (lent₁ .size);
-            cut = rw cut-masks (strike-lacks masks slot v (ready-slot ready));
-            low-in = lent₁ .does .inside;
-            high-in = zero-le;
-            value-in = omega (arith, ready .value-in);
-            tables = λ T mirror.
-                rw cut-masks
-                (struck-plain mirror slot v (ready-slot ready) (ready .value-in) has cells₁ a (ready .world .rows) (λ none. some (m-is ∙ none)) lent₁
-                (free true v z z-is z≤slot) (λ x fixed. many-free m many x (m-is ∙ fixed)));
-          }
+  moved : {cells′ trail′ : List ℕ} → length cells′ ≡ length cells → Trailed n k masks cells trail top after cells′ trail′ (top + 1)
+      → Moved n k masks cells trail top after cells′ trail′ (top + 1)
+  moved size trailed = moved-strike v (ready-slot ready) has (λ none. some (m-is ∙ none)) size trailed
 
-      pub removed-single : {cells₂ : List ℕ} {w y b : ℕ} → Fixed m w → y ≡ getD cells ((k + w) * (n + 1)) 0 → y ≤ slot
-          → Lent ((k + w) * (n + 1)) (n + 1) (λ l l′. Dropped n slot l l′ b) cells₁ cells₂
-          → Removed n k masks cells trail top masks′ cells₂ trail′ slot v a b w
-      removed-single {cells₂} {w} {y} {b} single y-is y≤slot lent₂ =
-          let w<k = left-in slot v w (ready .world) (sym m-is ∙ single) in
-          record {
-            moved = moved cells₂ (lent₂ .size ∙ lent₁ .size);
-            cut = rw cut-masks (strike-lacks masks slot v (ready-slot ready));
-            low-in = lent₁ .does .inside;
-            high-in = lent₂ .does .inside;
-            value-in = w<k;
-            tables = λ T mirror.
-                rw cut-masks
-                (struck-single mirror slot v (ready-slot ready) (ready .value-in) has cells₁ a (ready .world .rows) (λ none. some (m-is ∙ none)) lent₁
-                (free true v z z-is z≤slot) cells₂ w b w<k (sym m-is ∙ single) lent₂ (free false w y y-is y≤slot));
-          }
+  -- the slot had more than one value
+  many-before : 1 < ones (getD masks slot 0)
+  many-before =
+      let left : (ones (clearBit (getD masks slot 0) v) ≡ 0 → ⊥) = λ none. some (m-is ∙ ones-empty (clearBit (getD masks slot 0) v) none) in
+      omega (arith, left, ones-clearBit (getD masks slot 0) v, has)
+
+  module _ {cells₁ : List ℕ} {z a x : ℕ} (z-is : z ≡ getD cells (v * (n + 1)) 0) (z≤slot : z ≤ slot)
+      (lent₁ : Lent (v * (n + 1)) (n + 1) (λ l l′. Dropped n slot l l′ a x) cells cells₁) where
+    low-raised : RowRaised n v slot x cells₁ cells
+    low-raised = row-raised (k + k) lent₁ (omega (arith, ready .value-in)) (ready .world .rows) (free true v z z-is z≤slot)
+
+    -- the note fits a byte
+    pub low-note : x ≤ slot
+    low-note = low-raised .raisable .low
+
+    module _ {masks′ : List ℕ} (masks-are : masks′ ≡ set masks slot m) where
+      cut-masks : masks′ ≡ after
+      cut-masks = masks-are ∙ ap (λ (y : ℕ). set masks slot y) m-is
+
+      module _ {trail′ : List ℕ} (trail-is : trail′ ≡ written n trail top slot v x) where
+        -- ---- other values are left
+        taken-plain : (ones m ≡ 1 → ⊥) → TakenBack n k trail′ slot v x after cells₁ masks cells
+        taken-plain many =
+            record {
+              slot-in = ready .slot-in;
+              inside = omega (arith, length-set masks slot (clearBit (getD masks slot 0) v), ready-slot ready);
+              value-in = ready .value-in;
+              lacks = rw left-at (testBit-clearBit-same (getD masks slot 0) v);
+              masks-are = sym (putIn-strike masks slot v (ready-slot ready) has);
+              between = cells₁;
+              fixed = λ w fixed. absurd (many-free m many w (m-is ∙ sym left-at ∙ fixed));
+              free = λ none. refl;
+              low = low-raised;
+            }
+
+        pub removed-plain : (ones m ≡ 1 → ⊥) → Removed n k masks cells trail top masks′ cells₁ trail′ slot v a 0 0
+        removed-plain many =
+            rw (cut-masks, trail-is)
+            (record {
+              moved = moved (lent₁ .size) (trailed-plain (ready-room ready has) (rw trail-is at (taken-plain many)));
+              cut = strike-lacks masks slot v (ready-slot ready);
+              low-in = lent₁ .does .inside;
+              high-in = zero-le;
+              value-in = omega (arith, ready .value-in);
+              tables = λ T mirror.
+                  struck-plain mirror slot v (ready-slot ready) (ready .value-in) has cells₁ a x (ready .world .rows) (λ none. some (m-is ∙ none)) lent₁
+                  (free true v z z-is z≤slot) (λ w fixed. many-free m many w (m-is ∙ fixed));
+            })
+
+        -- ---- w is the only value that is left
+        module _ {cells₂ : List ℕ} (w : ℕ) {u b y : ℕ} (single : Fixed m w) (u-is : u ≡ getD cells ((k + w) * (n + 1)) 0) (u≤slot : u ≤ slot)
+            (lent₂ : Lent ((k + w) * (n + 1)) (n + 1) (λ l l′. Dropped n slot l l′ b y) cells₁ cells₂) where
+          w<k : w < k
+          w<k = left-in slot v w (ready .world) (sym m-is ∙ single)
+
+          high-raised : RowRaised n (k + w) slot y cells₂ cells₁
+          high-raised =
+              let same = lent-row n (k + k) v (k + w) lent₁ (ready .world .rows) (omega (arith, w<k)) (λ e. absurd (omega (arith, ready .value-in))) in
+              row-raised (k + k) lent₂ (omega (arith, w<k)) (omega (arith, lent₁ .size, ready .world .rows)) (rw same (free false w u u-is u≤slot))
+
+          pub high-note : y ≤ slot
+          high-note = high-raised .raisable .low
+
+          module _ {trail″ : List ℕ} (note-is : trail″ ≡ set trail′ slot y) where
+            taken-single : TakenBack n k (set (written n trail top slot v x) slot y) slot v x after cells₂ masks cells
+            taken-single =
+                let long : slot < length (written n trail top slot v x) = omega (arith, written-size n trail top slot v x, ready-room ready has, ready .slot-in) in
+                record {
+                  slot-in = ready .slot-in;
+                  inside = omega (arith, length-set masks slot (clearBit (getD masks slot 0) v), ready-slot ready);
+                  value-in = ready .value-in;
+                  lacks = rw left-at (testBit-clearBit-same (getD masks slot 0) v);
+                  masks-are = sym (putIn-strike masks slot v (ready-slot ready) has);
+                  between = cells₁;
+                  fixed = λ q fixed.
+                      let same : q ≡ w = fixed-unique m q w (m-is ∙ sym left-at ∙ fixed) single in
+                      rw (same, getD-set-same (written n trail top slot v x) slot y 0 long) (w<k, high-raised);
+                  free = λ none. absurd (none w (left-at ∙ sym m-is ∙ single));
+                  low = low-raised;
+                }
+
+            pub removed-single : Removed n k masks cells trail top masks′ cells₂ trail″ slot v a b w
+            removed-single =
+                rw (cut-masks, note-is, trail-is)
+                (record {
+                  moved = moved (lent₂ .size ∙ lent₁ .size) (trailed-single (ready-room ready has) y (ready .slot-in) many-before taken-single);
+                  cut = strike-lacks masks slot v (ready-slot ready);
+                  low-in = lent₁ .does .inside;
+                  high-in = lent₂ .does .inside;
+                  value-in = w<k;
+                  tables = λ T mirror.
+                      struck-single mirror slot v (ready-slot ready) (ready .value-in) has cells₁ a x (ready .world .rows) (λ none. some (m-is ∙ none))
+                      lent₁ (free true v z z-is z≤slot) cells₂ w b y w<k (sym m-is ∙ single) lent₂ (free false w u u-is u≤slot);
+                })

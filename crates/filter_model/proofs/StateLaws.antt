@@ -9,22 +9,24 @@ use Rattle.domains.specs.Mask.{clearBit}
 use Rattle.domains.specs.Masks.{HasAt}
 use Rattle.domains.proofs.MasksLaws.{subset-refl, subset-trans, subset-clearBit, total-clearBit}
 use Rattle.filter_model.specs.State.{World, Ready, Moved}
-use Rattle.filter_model.specs.Trail.{entry}
+use Rattle.filter_model.specs.Trail.{Trailed}
 use Rattle.filter_model.proofs.RowLaws.{row-inside}
 use Rattle.filter_model.proofs.StoreLaws.{alive-store}
-use Rattle.filter_model.proofs.TrailLaws.{trailed-refl, trailed-trans, trailed-strike}
+use Rattle.filter_model.proofs.TrailLaws.{trailed-refl, trailed-trans}
 
 -- ---- Moved
--- only the cells changed
-pub moved-cells : (masks cells cells′ trail : List ℕ) (h : ℕ) → length cells′ ≡ length cells → Moved masks cells trail h masks cells′ trail h
-moved-cells masks cells cells′ trail h size =
-    record { within = subset-refl masks; alive = λ alive. alive; cells-size = size; height = refl; trailed = trailed-refl masks trail h }
+pub moved-refl : (n k : ℕ) (masks cells trail : List ℕ) (h : ℕ) → Moved n k masks cells trail h masks cells trail h
+moved-refl n k masks cells trail h =
+    record {
+      within = subset-refl masks;
+      alive = λ alive. alive;
+      cells-size = refl;
+      height = refl;
+      trailed = trailed-refl n k masks cells trail h;
+    }
 
-pub moved-refl : (masks cells trail : List ℕ) (h : ℕ) → Moved masks cells trail h masks cells trail h
-moved-refl masks cells trail h = moved-cells masks cells cells trail h refl
-
-pub moved-trans : {m₀ c₀ t₀ m₁ c₁ t₁ m₂ c₂ t₂ : List ℕ} {h₀ h₁ h₂ : ℕ} → Moved m₀ c₀ t₀ h₀ m₁ c₁ t₁ h₁ → Moved m₁ c₁ t₁ h₁ m₂ c₂ t₂ h₂
-    → Moved m₀ c₀ t₀ h₀ m₂ c₂ t₂ h₂
+pub moved-trans : {n k : ℕ} {m₀ c₀ t₀ m₁ c₁ t₁ m₂ c₂ t₂ : List ℕ} {h₀ h₁ h₂ : ℕ} → Moved n k m₀ c₀ t₀ h₀ m₁ c₁ t₁ h₁
+    → Moved n k m₁ c₁ t₁ h₁ m₂ c₂ t₂ h₂ → Moved n k m₀ c₀ t₀ h₀ m₂ c₂ t₂ h₂
 moved-trans first second =
     record {
       within = subset-trans (second .within) (first .within);
@@ -35,20 +37,35 @@ moved-trans first second =
     }
 
 -- one value struck that was not the slot's last
-pub moved-strike : (masks cells cells′ trail : List ℕ) (top slot v : ℕ) → slot < length masks → v < 32 → top < length trail → HasAt masks slot v
+pub moved-strike : {n k : ℕ} {masks cells cells′ trail trail′ : List ℕ} {top slot : ℕ} (v : ℕ) → slot < length masks → HasAt masks slot v
     → (clearBit (getD masks slot 0) v ≡ 0 → ⊥) → length cells′ ≡ length cells
-    → Moved masks cells trail top (set masks slot (clearBit (getD masks slot 0) v)) cells′ (set trail top (entry slot v)) (top + 1)
-moved-strike masks cells cells′ trail top slot v inside v<32 room has some size =
+    → Trailed n k masks cells trail top (set masks slot (clearBit (getD masks slot 0) v)) cells′ trail′ (top + 1)
+    → Moved n k masks cells trail top (set masks slot (clearBit (getD masks slot 0) v)) cells′ trail′ (top + 1)
+moved-strike {masks = masks} {slot = slot} v inside has some size trailed =
     record {
       within = subset-clearBit masks slot v inside;
       alive = alive-store masks slot (clearBit (getD masks slot 0) v) inside some;
       cells-size = size;
       height = omega (arith, total-clearBit masks slot v inside, has);
-      trailed = trailed-strike masks trail top slot v inside v<32 room has;
+      trailed = trailed;
     }
 
 -- ---- World
-pub world-moved : {m₀ c₀ t₀ m₁ c₁ t₁ : List ℕ} {n k h₀ h₁ : ℕ} → World m₀ c₀ t₀ n k h₀ → Moved m₀ c₀ t₀ h₀ m₁ c₁ t₁ h₁ → World m₁ c₁ t₁ n k h₁
+-- other cells
+pub world-cells : {masks cells cells′ trail : List ℕ} {n k top : ℕ} → length cells′ ≡ length cells → World masks cells trail n k top
+    → World masks cells′ trail n k top
+world-cells size world =
+    record {
+      slots = world .slots;
+      rows = omega (arith, size, world .rows);
+      room = world .room;
+      slots-fit = world .slots-fit;
+      values-fit = world .values-fit;
+      values = world .values;
+      alive = world .alive;
+    }
+
+pub world-moved : {m₀ c₀ t₀ m₁ c₁ t₁ : List ℕ} {n k h₀ h₁ : ℕ} → World m₀ c₀ t₀ n k h₀ → Moved n k m₀ c₀ t₀ h₀ m₁ c₁ t₁ h₁ → World m₁ c₁ t₁ n k h₁
 world-moved world moved =
     record {
       slots = omega (arith, moved .within .len, world .slots);
@@ -70,9 +87,12 @@ module _ {masks cells trail : List ℕ} {n k top slot v : ℕ} (ready : Ready ma
   pub ready-slot : slot < length masks
   ready-slot = omega (arith, ready .slot-in, ready .world .slots)
 
+  pub ready-byte : slot < 256
+  ready-byte = omega (arith, ready .slot-in, ready .world .slots-fit)
+
   pub ready-value : v < 32
   ready-value = omega (arith, ready .value-in, ready .world .values-fit)
 
   -- a value that is there has room on the trail
-  pub ready-room : HasAt masks slot v → top < length trail
+  pub ready-room : HasAt masks slot v → n + 3 * top + 2 < length trail
   ready-room has = omega (arith, ready .world .room, total-clearBit masks slot v ready-slot, has)

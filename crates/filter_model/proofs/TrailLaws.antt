@@ -1,26 +1,50 @@
 -- The laws of `specs/Trail.antt`, in its order. No contract cites this file. The ones that matter most: `restores-add` (two stretches of the
--- trail, one after the other), `restores-unique`, `restores-next` (the entry that is put back first), `trailed-trans`, `trailed-strike`.
--- Assumes nothing.
-use mathlib.Core.Path.{_≡_, refl, sym, _∙_}
+-- trail, one after the other), `restores-next` (the strike that is taken back first), `restores-same` (another trail that keeps it),
+-- `restores-larger`, `trailed-trans`, `trailed-plain` and `trailed-single` (one value struck). Assumes nothing.
+use mathlib.Core.Path.{_≡_, refl, sym, ap, _∙_}
+use mathlib.Core.Logic.{dite}
 use mathlib.Core.List.{List}
-use Prim.Native.Nat.{ℕ, zero, suc, _+_, _-_, _^_, _<_}
-use native.Mathlib.Nat.{le-refl, le-trans, add-zero, add-suc, add-assoc, sub-self}
+use Prim.Native.Nat.{ℕ, zero, suc, _+_, _-_, _*_, _^_, _≤_, _<_, zero-le}
+use native.Mathlib.Nat.{le-refl, le-trans, le-of-eq, add-zero, add-suc, add-assoc, sub-self}
+use native.Mathlib.Decide.{ℕ-discrete}
 use native.Mathlib.Omega.{arith}
+use lib.Count.{ones}
 use lib.ListN.{length, getD, set, length-set}
 use lib.Seq.{getD-set-same, getD-set-other, set-getD, set-set}
-use Rattle.domains.specs.Mask.{Has, clearBit}
-use Rattle.domains.specs.Masks.{HasAt}
-use Rattle.domains.proofs.MaskLaws.{testBit-le, testBit-clearBit-same}
+use Rattle.domains.specs.Mask.{Has, Fixed, clearBit}
+use Rattle.domains.specs.Masks.{HasAt, FixedAt, Subset}
+use Rattle.domains.proofs.MaskLaws.{testBit-le, testBit-clearBit-same, testBit-put-other, ones-subset, fixed-single}
+use Rattle.domains.proofs.MasksLaws.{subset-refl, subset-trans}
 use Rattle.settling_model.specs.Settled.{LacksAt}
-use Rattle.filter_model.specs.Trail.{entry, entrySlot, entryValue, putIn, Restores, Trailed}
+use Rattle.filter_model.specs.Trail.{slotAt, valueAt, noteAt, written, putIn, RowRaised, TakenBack, Restores, Kept, Trailed}
 
--- ---- entry
-module _ (slot v : ℕ) (v<32 : v < 32) where
-  entrySlot-entry : entrySlot (entry slot v) ≡ slot
-  entrySlot-entry = omega arith
+-- ---- written
+module _ (n : ℕ) (trail : List ℕ) (i slot v x : ℕ) where
+  pub written-size : length (written n trail i slot v x) ≡ length trail
+  written-size = simp length-set
 
-  entryValue-entry : entryValue (entry slot v) ≡ v
-  entryValue-entry = omega arith
+  written-other : (p : ℕ) → (p < n + 3 * i) → getD (written n trail i slot v x) p 0 ≡ getD trail p 0
+  written-other p below =
+      getD-set-other (set (set trail (n + 3 * i) slot) (n + 3 * i + 1) v) (n + 3 * i + 2) p x 0 (λ e. absurd (omega arith))
+      ∙ getD-set-other (set trail (n + 3 * i) slot) (n + 3 * i + 1) p v 0 (λ e. absurd (omega arith))
+      ∙ getD-set-other trail (n + 3 * i) p slot 0 (λ e. absurd (omega arith))
+
+  module _ (room : n + 3 * i + 2 < length trail) where
+    written-slot : slotAt n (written n trail i slot v x) i ≡ slot
+    written-slot =
+        getD-set-other (set (set trail (n + 3 * i) slot) (n + 3 * i + 1) v) (n + 3 * i + 2) (n + 3 * i) x 0 (λ e. absurd (omega arith))
+        ∙ getD-set-other (set trail (n + 3 * i) slot) (n + 3 * i + 1) (n + 3 * i) v 0 (λ e. absurd (omega arith))
+        ∙ getD-set-same trail (n + 3 * i) slot 0 (omega arith)
+
+    written-value : valueAt n (written n trail i slot v x) i ≡ v
+    written-value =
+        getD-set-other (set (set trail (n + 3 * i) slot) (n + 3 * i + 1) v) (n + 3 * i + 2) (n + 3 * i + 1) x 0 (λ e. absurd (omega arith))
+        ∙ getD-set-same (set trail (n + 3 * i) slot) (n + 3 * i + 1) v 0 (omega (arith, length-set trail (n + 3 * i) slot))
+
+    written-note : noteAt n (written n trail i slot v x) i ≡ x
+    written-note =
+        getD-set-same (set (set trail (n + 3 * i) slot) (n + 3 * i + 1) v) (n + 3 * i + 2) x 0
+        (omega (arith, length-set trail (n + 3 * i) slot, length-set (set trail (n + 3 * i) slot) (n + 3 * i + 1) v))
 
 -- ---- putIn
 clearBit-has : (m v : ℕ) → Has m v → clearBit m v + 2 ^ v ≡ m
@@ -28,99 +52,191 @@ unfolding clearBit
 clearBit-has m v has = rw has (omega (arith, rw has at (testBit-le m v)))
 
 -- what a strike takes out is put back
-putIn-strike : (M : List ℕ) (slot v : ℕ) → slot < length M → HasAt M slot v → putIn (set M slot (clearBit (getD M slot 0) v)) slot v ≡ M
+pub putIn-strike : (M : List ℕ) (slot v : ℕ) → slot < length M → HasAt M slot v → putIn (set M slot (clearBit (getD M slot 0) v)) slot v ≡ M
 putIn-strike M slot v inside has =
     rw (getD-set-same M slot (clearBit (getD M slot 0) v) 0 inside, clearBit-has (getD M slot 0) v has, set-set) (set-getD M slot 0)
 
+putIn-larger : (M : List ℕ) (slot v : ℕ) → slot < length M → LacksAt M slot v → Subset M (putIn M slot v)
+putIn-larger M slot v inside lacks =
+    let m = getD M slot 0 in
+    record {
+      len = sym (length-set M slot (m + 2 ^ v));
+      bits = λ s x.
+          dite (ℕ-discrete s slot)
+          (λ here.
+          rw (here, getD-set-same M slot (m + 2 ^ v) 0 inside)
+          (dite (ℕ-discrete x v) (λ same. rw (same, lacks) zero-le) (λ other. le-of-eq (sym (testBit-put-other m v x lacks other)))))
+          (λ other. rw (getD-set-other M slot s (m + 2 ^ v) 0 other) (le-refl _));
+    }
+
+-- ---- TakenBack
+module _ {n k : ℕ} {trail : List ℕ} {slot v x : ℕ} {M′ c′ M c : List ℕ} (taken : TakenBack n k trail slot v x M′ c′ M c) where
+  pub taken-larger : Subset M′ M
+  taken-larger = rw (taken .masks-are) (putIn-larger M′ slot v (taken .inside) (taken .lacks))
+
+  -- another trail with the slot's note, where it is fixed
+  taken-same : (trail′ : List ℕ) → ((w : ℕ) → FixedAt M′ slot w → getD trail′ slot 0 ≡ getD trail slot 0) → TakenBack n k trail′ slot v x M′ c′ M c
+  taken-same trail′ same =
+      record {
+        slot-in = taken .slot-in;
+        inside = taken .inside;
+        value-in = taken .value-in;
+        lacks = taken .lacks;
+        masks-are = taken .masks-are;
+        between = taken .between;
+        fixed = λ w fixed. rw (same w fixed) (taken .fixed w fixed);
+        free = taken .free;
+        low = taken .low;
+      }
+
 -- ---- Restores
-pub restores-none : (trail : List ℕ) (from : ℕ) (M : List ℕ) → Restores trail from 0 M M
+pub restores-none : (n k : ℕ) (trail : List ℕ) (from : ℕ) (M c : List ℕ) → Restores n k trail from 0 M c M c
 unfolding Restores
-restores-none trail from M = refl
+restores-none n k trail from M c = (refl, refl)
 
--- nothing left to put back
-pub restores-done : (trail : List ℕ) (from : ℕ) (M′ M : List ℕ) → Restores trail from 0 M′ M → M′ ≡ M
+-- nothing left to take back
+pub restores-done : (n k : ℕ) (trail : List ℕ) (from : ℕ) (M′ c′ M c : List ℕ) → Restores n k trail from 0 M′ c′ M c → (M′ ≡ M) × (c′ ≡ c)
 unfolding Restores
-restores-done trail from M′ M restores = restores
+restores-done n k trail from M′ c′ M c restores = restores
 
--- the latest entry e is put back first
-pub record Next (trail : List ℕ) (from j e : ℕ) (M′ M : List ℕ) : Type 0 where
-  pub inside : entrySlot e < length M′
-  pub lacks : LacksAt M′ (entrySlot e) (entryValue e)
-  pub rest : Restores trail from j (putIn M′ (entrySlot e) (entryValue e)) M
+-- the latest strike is taken back first
+pub record Next (n k : ℕ) (trail : List ℕ) (from j slot v x : ℕ) (M′ c′ M c : List ℕ) : Type 0 where
+  pub masks : List ℕ
+  pub cells : List ℕ
+  pub taken : TakenBack n k trail slot v x M′ c′ masks cells
+  pub rest : Restores n k trail from j masks cells M c
 
-pub restores-next : (trail : List ℕ) (from j : ℕ) (M′ M : List ℕ) → Restores trail from (suc j) M′ M
-    → Next trail from j (getD trail (from + j) 0) M′ M
+pub restores-next : (n k : ℕ) (trail : List ℕ) (from j : ℕ) (M′ c′ M c : List ℕ) → Restores n k trail from (suc j) M′ c′ M c
+    → Next n k trail from j (slotAt n trail (from + j)) (valueAt n trail (from + j)) (noteAt n trail (from + j)) M′ c′ M c
 unfolding Restores
-restores-next trail from j M′ M restores = record { inside = restores .0; lacks = restores .1; rest = restores .2 }
+restores-next n k trail from j M′ c′ M c restores =
+    record { masks = restores .0; cells = restores .1; taken = restores .2; rest = restores .3 }
 
-next-restores : (trail : List ℕ) (from j : ℕ) (M′ M : List ℕ) → Next trail from j (getD trail (from + j) 0) M′ M → Restores trail from (suc j) M′ M
+next-restores : (n k : ℕ) (trail : List ℕ) (from j : ℕ) (M′ c′ M c : List ℕ)
+    → Next n k trail from j (slotAt n trail (from + j)) (valueAt n trail (from + j)) (noteAt n trail (from + j)) M′ c′ M c
+    → Restores n k trail from (suc j) M′ c′ M c
 unfolding Restores
-next-restores trail from j M′ M next = (next .inside, next .lacks, next .rest)
+next-restores n k trail from j M′ c′ M c next = (next .masks, next .cells, next .taken, next .rest)
 
--- trails that agree so far
-pub restores-same : (trail trail′ : List ℕ) (from j : ℕ) (M′ M : List ℕ) → ((i : ℕ) → i < from + j → getD trail′ i 0 ≡ getD trail i 0)
-    → Restores trail from j M′ M → Restores trail′ from j M′ M
+-- the masks that are restored are larger
+pub restores-larger : (n k : ℕ) (trail : List ℕ) (from j : ℕ) (M′ c′ M c : List ℕ) → Restores n k trail from j M′ c′ M c → Subset M′ M
+restores-larger n k trail from zero M′ c′ M c restores = rw (restores-done n k trail from M′ c′ M c restores .0) (subset-refl M)
+restores-larger n k trail from (suc j) M′ c′ M c restores =
+    let next = restores-next n k trail from j M′ c′ M c restores in
+    subset-trans (taken-larger (next .taken)) (restores-larger n k trail from j (next .masks) (next .cells) M c (next .rest))
+
+-- ---- Kept
+pub kept-refl : (n : ℕ) (M trail : List ℕ) (h : ℕ) → Kept n M trail h trail
+kept-refl n M trail h = record { below = λ i n≤i i<. refl; notes = λ s s<n few. refl }
+
+pub kept-trans : {n : ℕ} {M t₀ t₁ t₂ : List ℕ} {h : ℕ} → Kept n M t₀ h t₁ → Kept n M t₁ h t₂ → Kept n M t₀ h t₂
+kept-trans first second =
+    record {
+      below = λ i n≤i i<. second .below i n≤i i< ∙ first .below i n≤i i<;
+      notes = λ s s<n few. second .notes s s<n few ∙ first .notes s s<n few;
+    }
+
+-- larger masks, and a lower height
+pub kept-less : {n : ℕ} {M′ M trail trail′ : List ℕ} {h g : ℕ} → Subset M′ M → g ≤ h → Kept n M′ trail h trail′ → Kept n M trail g trail′
+kept-less {M′ = M′} {M = M} M′⊆M g≤h kept =
+    record {
+      below = λ i n≤i i<. kept .below i n≤i (omega arith);
+      notes = λ s s<n few. kept .notes s s<n (le-trans (ones-subset (getD M′ s 0) (getD M s 0) (λ v. M′⊆M .bits s v)) few);
+    }
+
+-- the strikes are restored as well by a trail that keeps them
+pub restores-same : (n k : ℕ) (trail trail′ : List ℕ) (from j : ℕ) (M′ c′ M c : List ℕ) → Kept n M′ trail (from + j) trail′
+    → Restores n k trail from j M′ c′ M c → Restores n k trail′ from j M′ c′ M c
 unfolding Restores
-restores-same trail trail′ from zero M′ M same restores = restores
-restores-same trail trail′ from (suc j) M′ M same restores =
-    rw (same (from + j) (omega arith))
-    (restores .0, restores .1, restores-same trail trail′ from j (putIn M′ _ _) M (λ i i<. same i (omega arith)) (restores .2))
+restores-same n k trail trail′ from zero M′ c′ M c kept restores = restores
+restores-same n k trail trail′ from (suc j) M′ c′ M c kept restores =
+    let taken = restores .2 in
+    rw (
+      kept .below (n + 3 * (from + j)) (omega arith) (omega arith),
+      kept .below (n + 3 * (from + j) + 1) (omega arith) (omega arith),
+      kept .below (n + 3 * (from + j) + 2) (omega arith) (omega arith),
+    )
+    (
+      restores .0,
+      restores .1,
+      taken-same taken trail′ (λ w fixed. kept .notes (slotAt n trail (from + j)) (taken .slot-in) (le-of-eq (fixed-single _ w fixed))),
+      restores-same n k trail trail′ from j (restores .0) (restores .1) M c (kept-less (taken-larger taken) (omega arith) kept) (restores .3),
+    )
 
 -- two stretches, the upper one first
-pub restores-add : (trail : List ℕ) (from a b : ℕ) (M₂ M₁ M : List ℕ) → Restores trail (from + a) b M₂ M₁ → Restores trail from a M₁ M
-    → Restores trail from (a + b) M₂ M
+pub restores-add : (n k : ℕ) (trail : List ℕ) (from a b : ℕ) (M₂ c₂ M₁ c₁ M c : List ℕ) → Restores n k trail (from + a) b M₂ c₂ M₁ c₁
+    → Restores n k trail from a M₁ c₁ M c → Restores n k trail from (a + b) M₂ c₂ M c
 unfolding Restores
-restores-add trail from a zero M₂ M₁ M upper lower = rw (add-zero, upper) lower
-restores-add trail from a (suc b) M₂ M₁ M upper lower =
-    rw (add-suc, ← add-assoc) (upper .0, upper .1, restores-add trail from a b (putIn M₂ _ _) M₁ M (upper .2) lower)
-
--- one list at most is restored
-pub restores-unique : (trail : List ℕ) (from j : ℕ) (M′ M K : List ℕ) → Restores trail from j M′ M → Restores trail from j M′ K → M ≡ K
-unfolding Restores
-restores-unique trail from zero M′ M K one other = sym one ∙ other
-restores-unique trail from (suc j) M′ M K one other = restores-unique trail from j (putIn M′ _ _) M K (one .2) (other .2)
+restores-add n k trail from a zero M₂ c₂ M₁ c₁ M c upper lower = rw (add-zero, upper .0, upper .1) lower
+restores-add n k trail from a (suc b) M₂ c₂ M₁ c₁ M c upper lower =
+    rw (add-suc, ← add-assoc)
+    (upper .0, upper .1, upper .2, restores-add n k trail from a b (upper .0) (upper .1) M₁ c₁ M c (upper .3) lower)
 
 -- ---- Trailed
-pub trailed-refl : (M trail : List ℕ) (h : ℕ) → Trailed M trail h M trail h
-trailed-refl M trail h = record { size = refl; up = le-refl h; below = λ i i<h. refl; back = rw sub-self (restores-none trail h M) }
+pub trailed-refl : (n k : ℕ) (M c trail : List ℕ) (h : ℕ) → Trailed n k M c trail h M c trail h
+trailed-refl n k M c trail h =
+    record { size = refl; up = le-refl h; kept = kept-refl n M trail h; back = rw sub-self (restores-none n k trail h M c) }
 
-pub trailed-trans : {M₀ t₀ M₁ t₁ M₂ t₂ : List ℕ} {h₀ h₁ h₂ : ℕ} → Trailed M₀ t₀ h₀ M₁ t₁ h₁ → Trailed M₁ t₁ h₁ M₂ t₂ h₂ → Trailed M₀ t₀ h₀ M₂ t₂ h₂
-trailed-trans {M₀} {t₀} {M₁} {t₁} {M₂} {t₂} {h₀} {h₁} {h₂} first second =
+pub trailed-trans : {n k : ℕ} {M₀ c₀ t₀ M₁ c₁ t₁ M₂ c₂ t₂ : List ℕ} {h₀ h₁ h₂ : ℕ} → Trailed n k M₀ c₀ t₀ h₀ M₁ c₁ t₁ h₁
+    → Trailed n k M₁ c₁ t₁ h₁ M₂ c₂ t₂ h₂ → Trailed n k M₀ c₀ t₀ h₀ M₂ c₂ t₂ h₂
+trailed-trans {n} {k} {M₀} {c₀} {t₀} {M₁} {c₁} {t₁} {M₂} {c₂} {t₂} {h₀} {h₁} {h₂} first second =
     let steps : h₂ - h₀ ≡ h₁ - h₀ + (h₂ - h₁) = omega (arith, first .up, second .up) in
     let start : h₁ ≡ h₀ + (h₁ - h₀) = omega (arith, first .up) in
-    let upper : Restores t₂ (h₀ + (h₁ - h₀)) (h₂ - h₁) M₂ M₁ = rw (← start) (second .back) in
-    let lower = restores-same t₁ t₂ h₀ (h₁ - h₀) M₁ M₀ (λ i i<h₁. second .below i (omega (arith, i<h₁, start))) (first .back) in
+    let upper : Restores n k t₂ (h₀ + (h₁ - h₀)) (h₂ - h₁) M₂ c₂ M₁ c₁ = rw (← start) (second .back) in
+    let kept : Kept n M₁ t₁ (h₀ + (h₁ - h₀)) t₂ = rw (← start) (second .kept) in
+    let lower = restores-same n k t₁ t₂ h₀ (h₁ - h₀) M₁ c₁ M₀ c₀ kept (first .back) in
     record {
       size = second .size ∙ first .size;
       up = le-trans (first .up) (second .up);
-      below = λ i i<h₀. second .below i (omega (arith, i<h₀, first .up)) ∙ first .below i i<h₀;
-      back = rw steps (restores-add t₂ h₀ (h₁ - h₀) (h₂ - h₁) M₂ M₁ M₀ upper lower);
+      kept =
+          kept-trans (first .kept)
+          (kept-less (restores-larger n k t₁ h₀ (h₁ - h₀) M₁ c₁ M₀ c₀ (first .back)) (first .up) (second .kept));
+      back = rw steps (restores-add n k t₂ h₀ (h₁ - h₀) (h₂ - h₁) M₂ c₂ M₁ c₁ M₀ c₀ upper lower);
     }
 
--- one value struck
-restores-one : (trail : List ℕ) (from slot v : ℕ) (M′ M : List ℕ) → v < 32 → getD trail from 0 ≡ entry slot v → slot < length M′ → LacksAt M′ slot v
-    → putIn M′ slot v ≡ M → Restores trail from 1 M′ M
-restores-one trail from slot v M′ M v<32 top-is inside lacks put =
-    next-restores trail from 0 M′ M
-    (rw (add-zero, top-is)
-    (record {
-      inside = rw (entrySlot-entry slot v v<32) inside;
-      lacks = rw (entrySlot-entry slot v v<32, entryValue-entry slot v v<32) lacks;
-      rest = rw (entrySlot-entry slot v v<32, entryValue-entry slot v v<32, put) (restores-none trail from M);
-    }))
+-- one value struck: its three bytes are on a trail that keeps the rest
+module _ {n k : ℕ} {M c trail M′ c′ trail′ : List ℕ} {top slot v x : ℕ} (size : length trail′ ≡ length trail) (kept : Kept n M trail top trail′)
+    (slot-is : slotAt n trail′ top ≡ slot) (value-is : valueAt n trail′ top ≡ v) (note-is : noteAt n trail′ top ≡ x)
+    (taken : TakenBack n k trail′ slot v x M′ c′ M c) where
+  trailed-one : Trailed n k M c trail top M′ c′ trail′ (top + 1)
+  trailed-one =
+      let one : top + 1 - top ≡ 1 = omega arith in
+      let same : top + 0 ≡ top = omega arith in
+      record {
+        size = size;
+        up = omega arith;
+        kept = kept;
+        back =
+            rw one
+            (next-restores n k trail′ top 0 M′ c′ M c
+            (rw (same, slot-is, value-is, note-is) (record { masks = M; cells = c; taken = taken; rest = restores-none n k trail′ top M c })));
+      }
 
-pub trailed-strike : (M trail : List ℕ) (top slot v : ℕ) → slot < length M → v < 32 → top < length trail → HasAt M slot v
-    → Trailed M trail top (set M slot (clearBit (getD M slot 0) v)) (set trail top (entry slot v)) (top + 1)
-trailed-strike M trail top slot v inside v<32 room has =
-    let cut = clearBit (getD M slot 0) v in
-    let one : top + 1 - top ≡ 1 = omega arith in
-    record {
-      size = length-set trail top (entry slot v);
-      up = omega arith;
-      below = λ i i<top. getD-set-other trail top i (entry slot v) 0 (λ same. absurd (omega arith));
-      back =
-          rw one
-          (restores-one (set trail top (entry slot v)) top slot v (set M slot cut) M v<32 (getD-set-same trail top (entry slot v) 0 room)
-          (omega (arith, length-set M slot cut)) (rw (getD-set-same M slot cut 0 inside) (testBit-clearBit-same (getD M slot 0) v))
-          (putIn-strike M slot v inside has));
-    }
+module _ {n k : ℕ} {M c trail M′ c′ : List ℕ} {top slot v x : ℕ} (room : n + 3 * top + 2 < length trail) where
+  -- the slot is not fixed
+  pub trailed-plain : TakenBack n k (written n trail top slot v x) slot v x M′ c′ M c
+      → Trailed n k M c trail top M′ c′ (written n trail top slot v x) (top + 1)
+  trailed-plain taken =
+      trailed-one (written-size n trail top slot v x)
+      (record {
+        below = λ i n≤i i<. written-other n trail top slot v x i i<;
+        notes = λ s s<n few. written-other n trail top slot v x s (omega arith);
+      })
+      (written-slot n trail top slot v x room) (written-value n trail top slot v x room) (written-note n trail top slot v x room) taken
+
+  -- the slot gets its only value, and the note y
+  pub trailed-single : (y : ℕ) → slot < n → 1 < ones (getD M slot 0) → TakenBack n k (set (written n trail top slot v x) slot y) slot v x M′ c′ M c
+      → Trailed n k M c trail top M′ c′ (set (written n trail top slot v x) slot y) (top + 1)
+  trailed-single y slot<n many taken =
+      let w = written n trail top slot v x in
+      let above : (p : ℕ) → n ≤ p → getD (set w slot y) p 0 ≡ getD w p 0 = λ p n≤p. getD-set-other w slot p y 0 (λ e. absurd (omega arith)) in
+      trailed-one (length-set w slot y ∙ written-size n trail top slot v x)
+      (record {
+        below = λ i n≤i i<. above i n≤i ∙ written-other n trail top slot v x i i<;
+        notes = λ s s<n few.
+            getD-set-other w slot s y 0 (λ same. absurd (omega (arith, ap (λ (i : ℕ). ones (getD M i 0)) same)))
+            ∙ written-other n trail top slot v x s (omega arith);
+      })
+      (above (n + 3 * top) (omega arith) ∙ written-slot n trail top slot v x room)
+      (above (n + 3 * top + 1) (omega arith) ∙ written-value n trail top slot v x room)
+      (above (n + 3 * top + 2) (omega arith) ∙ written-note n trail top slot v x room) taken

@@ -1,6 +1,7 @@
 -- The filter's state: masks, cells, and the trail up to a height; n slots and k values.
 --   World, Ready, Pruning   what a call needs: sizes, room on the trail, no value from k on, no empty mask; a slot and a value; a value and an end
---   Moved                   from one state to a later one: values only go, each that goes is one entry of the trail, and no mask gets empty
+--   Moved                   from one state to a later one: values only go, each that goes is one strike on the trail, no mask gets empty, and the
+--                           trail leads back to the masks and the cells
 --   Contradicted            a strike that changed nothing, since no stable list lacks the value there
 --   Removed                 a strike that was made: the reaches a of the value v, and b of the only value w that is left
 -- Assumes nothing.
@@ -21,9 +22,9 @@ pub record World (masks cells trail : List ℕ) (n k top : ℕ) : Type 0 where
   pub slots : n ≤ length masks
   pub rows : (k + k) * (n + 1) ≤ length cells
   -- every value that is left has room on the trail
-  pub room : top + total masks ≤ length trail
-  -- an entry of the trail fits its 16 bits, and a value the mask
-  pub slots-fit : n ≤ 2048
+  pub room : n + 3 * (top + total masks) ≤ length trail
+  -- a slot and a note fit a byte of the trail, and a value the mask
+  pub slots-fit : n ≤ 256
   pub values-fit : k ≤ 32
   pub values : (s w : ℕ) → k ≤ w → LacksAt masks s w
   pub alive : Alive masks
@@ -38,12 +39,12 @@ pub record Pruning (masks cells trail : List ℕ) (n k top v end : ℕ) : Type 0
   pub end-in : end ≤ n
   pub value-in : v < k
 
-pub record Moved (masks cells trail : List ℕ) (top : ℕ) (masks′ cells′ trail′ : List ℕ) (h : ℕ) : Type 0 where
+pub record Moved (n k : ℕ) (masks cells trail : List ℕ) (top : ℕ) (masks′ cells′ trail′ : List ℕ) (h : ℕ) : Type 0 where
   pub within : Subset masks′ masks
   pub alive : Alive masks → Alive masks′
   pub cells-size : length cells′ ≡ length cells
   pub height : h + total masks′ ≡ top + total masks
-  pub trailed : Trailed masks trail top masks′ trail′ h
+  pub trailed : Trailed n k masks cells trail top masks′ cells′ trail′ h
 
 pub record Contradicted (n k : ℕ) (masks cells trail masks′ cells′ trail′ : List ℕ) (slot v : ℕ) : Type 0 where
   pub masks-same : masks′ ≡ masks
@@ -52,7 +53,7 @@ pub record Contradicted (n k : ℕ) (masks cells trail masks′ cells′ trail�
   pub dead : (T : Table) → Mirror n k T masks cells → (N : List ℕ) → Stable (tableBounds n k T) N → Subset N masks → StrikeCut slot v N → ⊥
 
 pub record Removed (n k : ℕ) (masks cells trail : List ℕ) (top : ℕ) (masks′ cells′ trail′ : List ℕ) (slot v a b w : ℕ) : Type 0 where
-  pub moved : Moved masks cells trail top masks′ cells′ trail′ (top + 1)
+  pub moved : Moved n k masks cells trail top masks′ cells′ trail′ (top + 1)
   pub cut : StrikeCut slot v masks′
   pub low-in : a ≤ n
   pub high-in : b ≤ n

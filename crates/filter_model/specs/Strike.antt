@@ -1,6 +1,7 @@
 -- One whole strike of a value v at a slot, from the masks M to M′: v leaves the slot, and the slacks that this lowers are brought up to date.
 --   Reach n C f slot cells′ r   the slack f of a row with the corners C fell by one after the slot; before r all must be settled (0: nothing)
---   Dropped n slot cells ..     the same for whichever corners and slack the cells hold, where the slot is not before the spent corner
+--   Dropped n slot cells ..     the same for whichever corners and slack the cells hold, where the slot is not before the spent corner; and the
+--                               note x takes the fall back
 --   Due v a w b x t             all before t is to be settled for x: the reach of v is a, and that of w is b
 --   Cuts M′ v a w b N           N lies within M′ and meets the cuts of these two reaches
 --   Struck n k T M M′ ..        for a table T: the cells mirror it, newly spent corners are due, and every stable list without v there is kept
@@ -17,6 +18,7 @@ use Rattle.closing_model.specs.Table.{Table}
 use Rattle.settling_model.specs.Stable.{Stable, tableBounds}
 use Rattle.segments_model.specs.Cells.{Cells}
 use Rattle.segments_model.specs.Fall.{fallen, MoreThan, Meets}
+use Rattle.segments_model.specs.Raise.{Reversal}
 use Rattle.filter_model.specs.Cuts.{StrikeCut, BoundCut}
 use Rattle.filter_model.specs.Mirror.{Corner, slackAt, Mirror}
 
@@ -26,10 +28,11 @@ pub record Reach (n : ℕ) (C : ℕ → Bool) (f : ℕ → ℕ) (slot : ℕ) (ce
   pub past : (u : ℕ) → slot < u → r < u → u ≤ n → C u ≡ true → 1 < f u
   pub meets : 0 < r → Meets n C f slot 1 r
 
-pub record Dropped (n slot : ℕ) (cells cells′ : List ℕ) (r : ℕ) : Type 0 where
+pub record Dropped (n slot : ℕ) (cells cells′ : List ℕ) (r x : ℕ) : Type 0 where
   pub size : length cells′ ≡ length cells
   pub inside : r ≤ n
   pub reach : (C : ℕ → Bool) (f : ℕ → ℕ) → Cells n C f cells → getD cells 0 0 ≤ slot → Reach n C f slot cells′ r
+  pub back : getD cells 0 0 ≤ slot → Reversal n slot x cells cells′
 
 abbrev pub Due : ℕ → ℕ → ℕ → ℕ → ℕ → ℕ → Type 0
 Due v a w b x t = ((x ≡ v) × (t ≤ a)) ⊎ ((x ≡ w) × (t ≤ b))

@@ -1,38 +1,72 @@
--- The trail: one entry for each value that was struck, the latest on top.
---   entry slot v                  the entry of value v struck from the slot; `entrySlot` and `entryValue` read it
---   putIn M slot v                M with v put into the slot
---   Restores trail from j M′ M    the j entries from `from` on, put back into M′ the latest first, give M
---   Trailed M trail top M′ trail′ h   from M at height top to M′ at height h: the trail from top on, put back, gives M, and below it nothing changed
+-- The trail, a list of bytes: first one for each of the n slots, the note of the upper fall that was made when the slot got its only value; then
+-- three for each value that was struck, the latest on top: the slot, the value, and the note of the lower fall. What a note tells is in
+-- segments_model's `specs/Raise.antt`.
+--   slotAt, valueAt, noteAt    the three bytes of the strike i
+--   written n trail i ..       the trail with the strike i written
+--   putIn M slot v             M with v put into the slot
+--   RowRaised n row slot x ..  the row's fall after the slot is taken back by the note x
+--   TakenBack n k trail ..     a strike of v at the slot is taken back, from M′ and cells′ to M and cells: where the slot is fixed first the fall of
+--                              that value's upper row, then the fall of v's lower row, and v is put in
+--   Restores n k trail from j  the j strikes from `from` on, taken back the latest first, lead from M′ and cells′ to M and cells
+--   Kept n M trail h trail′    the strikes below h are the same, and the notes of the slots that have one value, or none, in M
+--   Trailed n k M cells trail top ..   from M and cells at height top to M′ and cells′ at height h: the strikes from top on, taken back, lead to
+--                                      M and cells, and what those below need is kept
 -- No other definition looks into the trail; `trailed-trans` is its law of transitivity.
 -- Assumes nothing.
 use mathlib.Core.Path.{_≡_}
 use mathlib.Core.List.{List}
-use Prim.Native.Nat.{ℕ, zero, suc, _+_, _-_, _*_, _/_, _%_, _^_, _≤_, _<_}
+use Prim.Native.Nat.{ℕ, zero, suc, _+_, _-_, _*_, _^_, _≤_, _<_}
+use lib.Count.{ones}
 use lib.ListN.{length, getD, set}
+use Rattle.domains.specs.Masks.{FixedAt}
 use Rattle.settling_model.specs.Settled.{LacksAt}
+use Rattle.segments_model.specs.Part.{part, over}
+use Rattle.segments_model.specs.Raise.{risen, Raisable}
 
--- 32 is the width of a mask
-abbrev pub entry : ℕ → ℕ → ℕ
-entry slot v = slot * 32 + v
+abbrev pub slotAt : ℕ → List ℕ → ℕ → ℕ
+slotAt n trail i = getD trail (n + 3 * i) 0
 
-abbrev pub entrySlot : ℕ → ℕ
-entrySlot e = e / 32
+abbrev pub valueAt : ℕ → List ℕ → ℕ → ℕ
+valueAt n trail i = getD trail (n + 3 * i + 1) 0
 
-abbrev pub entryValue : ℕ → ℕ
-entryValue e = e % 32
+abbrev pub noteAt : ℕ → List ℕ → ℕ → ℕ
+noteAt n trail i = getD trail (n + 3 * i + 2) 0
+
+abbrev pub written : ℕ → List ℕ → ℕ → ℕ → ℕ → ℕ → List ℕ
+written n trail i slot v x = set (set (set trail (n + 3 * i) slot) (n + 3 * i + 1) v) (n + 3 * i + 2) x
 
 abbrev pub putIn : List ℕ → ℕ → ℕ → List ℕ
 putIn M slot v = set M slot (getD M slot 0 + 2 ^ v)
 
--- each value is put into a slot that is there and lacks it
-unfoldable pub Restores : List ℕ → ℕ → ℕ → List ℕ → List ℕ → Type 0
-Restores trail from zero M′ M = M′ ≡ M
-Restores trail from (suc j) M′ M =
-    (entrySlot (getD trail (from + j) 0) < length M′) × LacksAt M′ (entrySlot (getD trail (from + j) 0)) (entryValue (getD trail (from + j) 0))
-    × Restores trail from j (putIn M′ (entrySlot (getD trail (from + j) 0)) (entryValue (getD trail (from + j) 0))) M
+pub record RowRaised (n row slot x : ℕ) (cells′ cells : List ℕ) : Type 0 where
+  pub raisable : Raisable n slot x (part (row * (n + 1)) (n + 1) cells′)
+  pub is : cells ≡ over (row * (n + 1)) (n + 1) (risen n slot x) cells′
 
-pub record Trailed (M trail : List ℕ) (top : ℕ) (M′ trail′ : List ℕ) (h : ℕ) : Type 0 where
+pub record TakenBack (n k : ℕ) (trail : List ℕ) (slot v x : ℕ) (M′ cells′ M cells : List ℕ) : Type 0 where
+  pub slot-in : slot < n
+  pub inside : slot < length M′
+  pub value-in : v < k
+  pub lacks : LacksAt M′ slot v
+  pub masks-are : M ≡ putIn M′ slot v
+  -- the cells between the two
+  pub between : List ℕ
+  pub fixed : (w : ℕ) → FixedAt M′ slot w → (w < k) × RowRaised n (k + w) slot (getD trail slot 0) cells′ between
+  pub free : ((w : ℕ) → FixedAt M′ slot w → ⊥) → between ≡ cells′
+  pub low : RowRaised n v slot x between cells
+
+unfoldable pub Restores : ℕ → ℕ → List ℕ → ℕ → ℕ → List ℕ → List ℕ → List ℕ → List ℕ → Type 0
+Restores n k trail from zero M′ cells′ M cells = (M′ ≡ M) × (cells′ ≡ cells)
+Restores n k trail from (suc j) M′ cells′ M cells =
+    (M₁ : List ℕ) × (cells₁ : List ℕ)
+    × TakenBack n k trail (slotAt n trail (from + j)) (valueAt n trail (from + j)) (noteAt n trail (from + j)) M′ cells′ M₁ cells₁
+    × Restores n k trail from j M₁ cells₁ M cells
+
+pub record Kept (n : ℕ) (M trail : List ℕ) (h : ℕ) (trail′ : List ℕ) : Type 0 where
+  pub below : (i : ℕ) → n ≤ i → i < n + 3 * h → getD trail′ i 0 ≡ getD trail i 0
+  pub notes : (s : ℕ) → s < n → ones (getD M s 0) ≤ 1 → getD trail′ s 0 ≡ getD trail s 0
+
+pub record Trailed (n k : ℕ) (M cells trail : List ℕ) (top : ℕ) (M′ cells′ trail′ : List ℕ) (h : ℕ) : Type 0 where
   pub size : length trail′ ≡ length trail
   pub up : top ≤ h
-  pub below : (i : ℕ) → i < top → getD trail′ i 0 ≡ getD trail i 0
-  pub back : Restores trail′ top (h - top) M′ M
+  pub kept : Kept n M trail top trail′
+  pub back : Restores n k trail′ top (h - top) M′ cells′ M cells
