@@ -84,9 +84,8 @@ module _ {masks cells trail : List ℕ} {n k top slot v : ℕ} (ready : Ready ma
               lacks = rw left-at (testBit-clearBit-same (getD masks slot 0) v);
               masks-are = sym (putIn-strike masks slot v (ready-slot ready) has);
               between = cells₁;
-              fixed = λ w fixed. absurd (many-free m many w (m-is ∙ sym left-at ∙ fixed));
-              free = λ none. refl;
-              low = low-raised;
+              upper = record { fixed = λ w fixed. absurd (many-free m many w (m-is ∙ sym left-at ∙ fixed)); free = λ none. refl };
+              lower = low-raised;
             }
 
         pub removed-plain : (ones m ≡ 1 → ⊥) → Removed n k masks cells trail top masks′ cells₁ trail′ slot v a 0 0
@@ -128,11 +127,13 @@ module _ {masks cells trail : List ℕ} {n k top slot v : ℕ} (ready : Ready ma
                   lacks = rw left-at (testBit-clearBit-same (getD masks slot 0) v);
                   masks-are = sym (putIn-strike masks slot v (ready-slot ready) has);
                   between = cells₁;
-                  fixed = λ q fixed.
-                      let same : q ≡ w = fixed-unique m q w (m-is ∙ sym left-at ∙ fixed) single in
-                      rw (same, getD-set-same (written n trail top slot v x) slot y 0 long) (w<k, high-raised);
-                  free = λ none. absurd (none w (left-at ∙ sym m-is ∙ single));
-                  low = low-raised;
+                  upper = record {
+                    fixed = λ q fixed.
+                        let same : q ≡ w = fixed-unique m q w (m-is ∙ sym left-at ∙ fixed) single in
+                        rw (same, getD-set-same (written n trail top slot v x) slot y 0 long) (w<k, high-raised);
+                    free = λ none. absurd (none w (left-at ∙ sym m-is ∙ single));
+                  };
+                  lower = low-raised;
                 }
 
             pub removed-single : Removed n k masks cells trail top masks′ cells₂ trail″ slot v a b w

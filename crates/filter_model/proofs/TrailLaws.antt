@@ -84,9 +84,8 @@ module _ {n k : ℕ} {trail : List ℕ} {slot v x : ℕ} {M′ c′ M c : List �
         lacks = taken .lacks;
         masks-are = taken .masks-are;
         between = taken .between;
-        fixed = λ w fixed. rw (same w fixed) (taken .fixed w fixed);
-        free = taken .free;
-        low = taken .low;
+        upper = record { fixed = λ w fixed. rw (same w fixed) (taken .upper .fixed w fixed); free = taken .upper .free };
+        lower = taken .lower;
       }
 
 -- ---- Restores

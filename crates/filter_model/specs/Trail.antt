@@ -5,8 +5,9 @@
 --   written n trail i ..       the trail with the strike i written
 --   putIn M slot v             M with v put into the slot
 --   RowRaised n row slot x ..  the row's fall after the slot is taken back by the note x
---   TakenBack n k trail ..     a strike of v at the slot is taken back, from M′ and cells′ to M and cells: where the slot is fixed first the fall of
---                              that value's upper row, then the fall of v's lower row, and v is put in
+--   UpperRaised n k trail ..   where the slot is fixed in M′, the fall of that value's upper row is taken back
+--   TakenBack n k trail ..     a strike of v at the slot is taken back, from M′ and cells′ to M and cells: such an upper fall, then the fall of v's
+--                              lower row, and v is put in
 --   Restores n k trail from j  the j strikes from `from` on, taken back the latest first, lead from M′ and cells′ to M and cells
 --   Kept n M trail h trail′    the strikes below h are the same, and the notes of the slots that have one value, or none, in M
 --   Trailed n k M cells trail top ..   from M and cells at height top to M′ and cells′ at height h: the strikes from top on, taken back, lead to
@@ -42,6 +43,10 @@ pub record RowRaised (n row slot x : ℕ) (cells′ cells : List ℕ) : Type 0 w
   pub raisable : Raisable n slot x (part (row * (n + 1)) (n + 1) cells′)
   pub is : cells ≡ over (row * (n + 1)) (n + 1) (risen n slot x) cells′
 
+pub record UpperRaised (n k : ℕ) (trail M′ : List ℕ) (slot : ℕ) (cells′ cells : List ℕ) : Type 0 where
+  pub fixed : (w : ℕ) → FixedAt M′ slot w → (w < k) × RowRaised n (k + w) slot (getD trail slot 0) cells′ cells
+  pub free : ((w : ℕ) → FixedAt M′ slot w → ⊥) → cells ≡ cells′
+
 pub record TakenBack (n k : ℕ) (trail : List ℕ) (slot v x : ℕ) (M′ cells′ M cells : List ℕ) : Type 0 where
   pub slot-in : slot < n
   pub inside : slot < length M′
@@ -50,9 +55,8 @@ pub record TakenBack (n k : ℕ) (trail : List ℕ) (slot v x : ℕ) (M′ cells
   pub masks-are : M ≡ putIn M′ slot v
   -- the cells between the two
   pub between : List ℕ
-  pub fixed : (w : ℕ) → FixedAt M′ slot w → (w < k) × RowRaised n (k + w) slot (getD trail slot 0) cells′ between
-  pub free : ((w : ℕ) → FixedAt M′ slot w → ⊥) → between ≡ cells′
-  pub low : RowRaised n v slot x between cells
+  pub upper : UpperRaised n k trail M′ slot cells′ between
+  pub lower : RowRaised n v slot x between cells
 
 unfoldable pub Restores : ℕ → ℕ → List ℕ → ℕ → ℕ → List ℕ → List ℕ → List ℕ → List ℕ → Type 0
 Restores n k trail from zero M′ cells′ M cells = (M′ ≡ M) × (cells′ ≡ cells)

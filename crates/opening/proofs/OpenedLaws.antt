@@ -10,7 +10,7 @@ use Rattle.filter_model.specs.Mirror.{Mirror}
 use Rattle.filter_model.specs.State.{World}
 use Rattle.filter_model.proofs.MirrorLaws.{quiet-stable}
 use Rattle.filter_model.proofs.RisesLaws.{broken-unstable, lineTable, rises-table}
-use Rattle.filter_model.proofs.StateLaws.{moved-trans, moved-cells, world-moved}
+use Rattle.filter_model.proofs.StateLaws.{moved-refl, world-cells}
 use Rattle.filter.specs.Filtered.{Filtered}
 use Rattle.filter.specs.declared.Outcome.{Outcome}
 use Rattle.filter.specs.declared.Outcome.the-variants.{Live, Dead}
@@ -36,7 +36,9 @@ module _ {n k : ℕ} {L U m c c₁ t : List ℕ} where
   pub open-broken : AllBuilt n k L U m c c₁ false → OpenAnswer n k L U m c t m c₁ t (Dead 0)
   open-broken built =
       record {
-        moved = moved-cells m c c₁ t 0 (built .size);
+        built = c₁;
+        size = built .size;
+        moved = moved-refl n k m c₁ t 0;
         meaning = λ T rises.
             let broken = built .meaning T rises in
             broken-unstable n k T m (broken .0) (broken .1) (broken .2) (broken .3) (broken .4);
@@ -47,7 +49,7 @@ module _ {n k : ℕ} {L U m c c₁ t : List ℕ} where
     pub built-opening : World m c t n k 0 → Opening m c₁ t n k 0
     built-opening world =
         record {
-          world = world-moved world (moved-cells m c c₁ t 0 (built .size));
+          world = world-cells (built .size) world;
           mirrored = record { table = lineTable n L U; mirror = built .meaning (lineTable n L U) (rises-table n L U k) };
         }
 
@@ -55,7 +57,9 @@ module _ {n k : ℕ} {L U m c c₁ t : List ℕ} where
         → OpenAnswer n k L U m c t m′ c′ t′ r
     open-pruned {m′} {c′} {t′} {r} alive done =
         record {
-          moved = moved-trans (moved-cells m c c₁ t 0 (built .size)) (done .moved);
+          built = c₁;
+          size = built .size;
+          moved = done .moved;
           meaning = λ T rises. means T (built .meaning T rises) r done;
         }
       where

@@ -6,6 +6,7 @@
 --   Opened, OpenAnswer       for each table with the rises: Live, the cells mirror it and, where it is closed, the masks are the largest stable
 --                            list within those at entry; Dead, there is none
 -- Assumes nothing.
+use mathlib.Core.Path.{_≡_}
 use mathlib.Core.Bool.{Bool}
 use mathlib.Core.List.{List}
 use Prim.Native.Nat.{ℕ, _<_}
@@ -50,5 +51,8 @@ OpenMeaning n k T masks masks′ cells′ (Live h) = Opened n k T masks masks′
 OpenMeaning n k T masks masks′ cells′ (Dead h) = Unstable (tableBounds n k T) masks
 
 pub record OpenAnswer (n k : ℕ) (lowers uppers masks cells trail masks′ cells′ trail′ : List ℕ) (r : Outcome) : Type 0 where
-  pub moved : Moved masks cells trail 0 masks′ cells′ trail′ (heightOf r)
+  -- the cells as they were built
+  pub built : List ℕ
+  pub size : length built ≡ length cells
+  pub moved : Moved n k masks built trail 0 masks′ cells′ trail′ (heightOf r)
   pub meaning : (T : Table) → TableRises n k T lowers uppers → OpenMeaning n k T masks masks′ cells′ r

@@ -14,7 +14,7 @@ ghost use Rattle.opening.specs.Opened.{Anything, Opening, QuietValue, Qu
 pub fn open(
     masks: &mut [u32],
     cells: &mut [u16],
-    trail: &mut [u16],
+    trail: &mut [u8],
     lowers: &[u32],
     uppers: &[u32],
     n: usize,
@@ -81,7 +81,7 @@ fn build_rows(
 fn prune_all(
     masks: &mut [u32],
     cells: &mut [u16],
-    trail: &mut [u16],
+    trail: &mut [u8],
     n: usize,
     k: u32,
     top: usize,
@@ -109,7 +109,7 @@ fn prune_all(
 fn prune_value(
     masks: &mut [u32],
     cells: &mut [u16],
-    trail: &mut [u16],
+    trail: &mut [u8],
     n: usize,
     k: u32,
     top: usize,

@@ -1,136 +1,169 @@
--- The laws of `specs/Undone.antt`: the entries put back one by one (`putting-start`, `putting-next`, `putting-step`, `putting-end`), the cells built
--- again (`undone-built`), and what a session cites: after any call of the filter, Live or Dead, its strikes may be taken back (`moved-undoable`),
--- and that gives the masks at its entry (`moved-undone`) and cells that mirror them (`moved-mirror`). No contract cites this file. Assumes
--- nothing.
-use mathlib.Core.Path.{_≡_, refl, sym, ap, _∙_}
-use mathlib.Core.Bool.{Bool, true, false}
-use mathlib.Core.Logic.{dite}
+-- The laws of `specs/Undone.antt`: one strike (`upper-undone`, `strike-undone`), the strikes one by one (`putting-start`, `putting-next`,
+-- `putting-step`, `putting-end`), and what a session cites: after any call of the filter, Live or Dead, its strikes may be taken back
+-- (`moved-undoable`), and that gives the masks and the cells at its entry (`moved-undone`). No contract cites this file. Assumes nothing.
+use mathlib.Core.Path.{_≡_, refl, sym, _∙_}
 use mathlib.Core.List.{List}
-use Prim.Native.Nat.{ℕ, zero, suc, _+_, _-_, _^_, _≤_, _<_, zero-le}
-use native.Mathlib.Nat.{le-refl, le-of-eq}
-use native.Mathlib.Decide.{ℕ-discrete}
+use Prim.Native.Nat.{ℕ, suc, _+_, _-_, _*_, _≤_, _<_}
+use native.Mathlib.Nat.{le-refl}
 use native.Mathlib.Omega.{arith}
-use lib.ListN.{length, getD, length-set}
-use lib.Seq.{getD-set-same, getD-set-other}
-use Rattle.domains.specs.Masks.{Subset}
-use Rattle.domains.proofs.MaskLaws.{testBit-put-other}
-use Rattle.domains.proofs.MasksLaws.{subset-refl, subset-trans}
-use Rattle.closing_model.specs.Table.{Table}
+use lib.Count.{ones}
+use lib.ListN.{length, getD}
+use Rattle.domains.specs.Mask.{Fixed}
+use Rattle.domains.specs.Masks.{FixedAt}
 use Rattle.settling_model.specs.Settled.{LacksAt}
-use Rattle.filter_model.specs.Mirror.{Mirror}
-use Rattle.filter_model.specs.Rises.{TableRises}
+use Rattle.segments_model.specs.Part.{over}
+use Rattle.segments_model.specs.Raise.{risen}
 use Rattle.filter_model.specs.State.{World, Moved}
-use Rattle.filter_model.specs.Trail.{entrySlot, entryValue, putIn, Restores}
-use Rattle.filter_model.proofs.RisesLaws.{mirror-larger}
+use Rattle.filter_model.specs.Trail.{slotAt, valueAt, noteAt, putIn, RowRaised, UpperRaised, TakenBack, Restores}
+use Rattle.filter_model.proofs.RowLaws.{row-inside}
 use Rattle.filter_model.proofs.StateLaws.{world-moved}
+use Rattle.filter_model.proofs.StoreLaws.{many-free}
 use Rattle.filter_model.proofs.TrailLaws.{Next, restores-next, restores-done}
-use Rattle.opening.specs.Built.{AllBuilt}
-use Rattle.undoing.specs.Undone.{Backable, PutBack, Undoable, Undone}
+use Rattle.undoing.specs.Undone.{Sizes, RowUndoing, UpperUndoing, UpperUndone, StrikeUndoing, StrikeUndone, Undoable, Undone}
 
--- ---- the loop: what is left to put back when it has come down to i
-pub record Putting (masks₀ trail : List ℕ) (from to : ℕ) (masks : List ℕ) (i : ℕ) : Type 0 where
+-- ---- one row
+row-undoing : {masks cells cells₁ cells₂ : List ℕ} {n k slot x : ℕ} (row : ℕ) → Sizes masks cells n k → slot < n → row < k + k
+    → length cells₁ ≡ length cells → RowRaised n row slot x cells₁ cells₂ → RowUndoing cells₁ row n slot x
+row-undoing {n = n} {k = k} row sizes slot<n row-in size raised =
+    record {
+      slot-in = omega arith;
+      row-in = omega (arith, row-inside n (k + k) row row-in, sizes .rows, size);
+      slots-fit = omega (arith, sizes .slots-fit);
+      raisable = raised .raisable;
+    }
+
+-- ---- the upper fall
+module _ {masks cells trail : List ℕ} {n k slot m : ℕ} (m-is : m ≡ getD masks slot 0) where
+  pub upper-undone-free : (ones m ≡ 1 → ⊥) → UpperUndone masks cells trail n k slot cells
+  upper-undone-free many =
+      record { restored = λ before raised. sym (raised .free (λ w fixed. many-free m many w (m-is ∙ fixed))) }
+
+  module _ (w : ℕ) (single : Fixed m w) where
+    pub upper-value : UpperUndoing masks cells trail n k slot → w < k
+    upper-value undoing = undoing .raised .fixed w (sym m-is ∙ single) .0
+
+    pub upper-row : (x : ℕ) → x ≡ getD trail slot 0 → UpperUndoing masks cells trail n k slot → RowUndoing cells (k + w) n slot x
+    upper-row x x-is undoing =
+        let raised = undoing .raised .fixed w (sym m-is ∙ single) in
+        rw x-is (row-undoing (k + w) (undoing .sizes) (undoing .slot-in) (omega (arith, raised .0)) refl (raised .1))
+
+    pub upper-undone : {x : ℕ} {cells′ : List ℕ} → x ≡ getD trail slot 0 → cells′ ≡ over ((k + w) * (n + 1)) (n + 1) (risen n slot x) cells
+        → UpperUndone masks cells trail n k slot cells′
+    upper-undone x-is cells-are =
+        record {
+          restored = λ before raised. cells-are ∙ rw x-is (sym (raised .fixed w (sym m-is ∙ single) .1 .is));
+        }
+
+-- ---- one strike; slot, v and x are its three bytes
+module _ {masks cells trail : List ℕ} {n k i : ℕ} (undoing : StrikeUndoing masks cells trail n k i) {slot v : ℕ}
+    (slot-is : slot ≡ slotAt n trail i) (v-is : v ≡ valueAt n trail i) where
+  taken : TakenBack n k trail slot v (noteAt n trail i) masks cells (undoing .old) (undoing .old-cells)
+  taken = rw (slot-is, v-is) (undoing .taken)
+
+  pub strike-upper : UpperUndoing masks cells trail n k slot
+  strike-upper =
+      record {
+        sizes = undoing .sizes;
+        slot-in = taken .slot-in;
+        note-in = omega (arith, undoing .strike-in);
+        before = taken .between;
+        raised = taken .upper;
+      }
+
+  module _ {cells₁ : List ℕ} (size : length cells₁ ≡ length cells) (upper : UpperUndone masks cells trail n k slot cells₁) where
+    pub strike-row : {x : ℕ} → x ≡ noteAt n trail i → RowUndoing cells₁ v n slot x
+    strike-row x-is =
+        rw (x-is, upper .restored (taken .between) (taken .upper))
+        (row-undoing v (undoing .sizes) (taken .slot-in) (omega (arith, taken .value-in)) (rw (upper .restored (taken .between) (taken .upper)) at size)
+        (taken .lower))
+
+    pub strike-undone : {x : ℕ} {cells₂ masks′ : List ℕ} → x ≡ noteAt n trail i → cells₂ ≡ over (v * (n + 1)) (n + 1) (risen n slot x) cells₁
+        → masks′ ≡ putIn masks slot v → StrikeUndone masks cells trail n k i masks′ cells₂
+    strike-undone x-is cells-are masks-are =
+        record {
+          restored = λ old old-cells back.
+              let same : TakenBack n k trail slot v (noteAt n trail i) masks cells old old-cells = rw (slot-is, v-is) back in (
+                masks-are ∙ sym (same .masks-are),
+                cells-are ∙ rw (x-is, upper .restored (same .between) (same .upper)) (sym (same .lower .is)),
+              );
+        }
+
+  pub strike-value : v < 32
+  strike-value = omega (arith, taken .value-in, undoing .sizes .values-fit)
+
+  pub strike-put : (slot < length masks) × (v < 32) × LacksAt masks slot v
+  strike-put = (taken .inside, strike-value, taken .lacks)
+
+-- ---- the loop: what is left to take back when it has come down to i
+pub record Putting (masks₀ cells₀ trail : List ℕ) (n k from to : ℕ) (masks cells : List ℕ) (i : ℕ) : Type 0 where
   pub low : from ≤ i
   pub high : i ≤ to
-  pub size : length masks ≡ length masks₀
-  pub rest : (old : List ℕ) → Restores trail from (to - from) masks₀ old → Restores trail from (i - from) masks old
+  pub masks-size : length masks ≡ length masks₀
+  pub cells-size : length cells ≡ length cells₀
+  pub rest : (old c : List ℕ) → Restores n k trail from (to - from) masks₀ cells₀ old c → Restores n k trail from (i - from) masks cells old c
 
-pub putting-start : (masks trail : List ℕ) (from to : ℕ) → from ≤ to → Putting masks trail from to masks to
-putting-start masks trail from to from≤to = record { low = from≤to; high = le-refl to; size = refl; rest = λ old restores. restores }
+pub putting-start : (masks cells trail : List ℕ) (n k from to : ℕ) → from ≤ to → Putting masks cells trail n k from to masks cells to
+putting-start masks cells trail n k from to from≤to =
+    record { low = from≤to; high = le-refl to; masks-size = refl; cells-size = refl; rest = λ old c restores. restores }
 
--- the entry e below i
-module _ {masks₀ trail masks : List ℕ} {from to i : ℕ} (putting : Putting masks₀ trail from to masks i) where
-  module _ (e : ℕ) (from<i : from < i) (e-is : e ≡ getD trail (i - 1) 0) where
-    pub putting-next : (old : List ℕ) → Restores trail from (to - from) masks₀ old → Next trail from (i - 1 - from) e masks old
-    putting-next old restores =
+module _ {masks₀ cells₀ trail masks cells : List ℕ} {n k from to i : ℕ} (putting : Putting masks₀ cells₀ trail n k from to masks cells i) where
+  module _ (from<i : from < i) where
+    putting-next : (old c : List ℕ) → Restores n k trail from (to - from) masks₀ cells₀ old c
+        → Next n k trail from (i - 1 - from) (slotAt n trail (i - 1)) (valueAt n trail (i - 1)) (noteAt n trail (i - 1)) masks cells old c
+    putting-next old c restores =
         let steps : i - from ≡ suc (i - 1 - from) = omega arith in
         let place : from + (i - 1 - from) ≡ i - 1 = omega arith in
-        let latest : e ≡ getD trail (from + (i - 1 - from)) 0 = rw place e-is in
-        rw latest (restores-next trail from (i - 1 - from) masks old (rw steps at (putting .rest old restores)))
+        rw place at (restores-next n k trail from (i - 1 - from) masks cells old c (rw steps at (putting .rest old c restores)))
 
-    pub putting-step : {masks′ : List ℕ} → masks′ ≡ putIn masks (entrySlot e) (entryValue e) → Putting masks₀ trail from to masks′ (i - 1)
-    putting-step masks-are =
+    pub putting-undoing : Undoable masks₀ cells₀ trail n k from to → StrikeUndoing masks cells trail n k (i - 1)
+    putting-undoing undoable =
+        let next = putting-next (undoable .old) (undoable .old-cells) (undoable .restores) in
+        let sizes = undoable .sizes in
+        record {
+          sizes = record {
+            slots = omega (arith, sizes .slots, putting .masks-size);
+            rows = omega (arith, sizes .rows, putting .cells-size);
+            slots-fit = sizes .slots-fit;
+            values-fit = sizes .values-fit;
+          };
+          strike-in = omega (arith, undoable .upto, putting .high);
+          old = next .masks;
+          old-cells = next .cells;
+          taken = next .taken;
+        }
+
+    pub putting-step : {masks′ cells′ : List ℕ} → length masks′ ≡ length masks → length cells′ ≡ length cells
+        → StrikeUndone masks cells trail n k (i - 1) masks′ cells′ → Putting masks₀ cells₀ trail n k from to masks′ cells′ (i - 1)
+    putting-step masks-size cells-size undone =
         record {
           low = omega arith;
           high = omega (arith, putting .high);
-          size = ap length masks-are ∙ simp length-set (putting .size);
-          rest = λ old restores. rw masks-are (putting-next old restores .rest);
+          masks-size = masks-size ∙ putting .masks-size;
+          cells-size = cells-size ∙ putting .cells-size;
+          rest = λ old c restores.
+              let next = putting-next old c restores in
+              let back = undone .restored (next .masks) (next .cells) (next .taken) in
+              rw (back .0, back .1) (next .rest);
         }
 
-  pub putting-end : i ≤ from → PutBack masks₀ trail from to masks
+  pub putting-end : i ≤ from → Undone masks₀ cells₀ trail n k from to masks cells
   putting-end i≤from =
       let none : i - from ≡ 0 = omega arith in
-      record { restored = λ old restores. restores-done trail from masks old (rw none at (putting .rest old restores)) }
-
--- ---- the list that is restored is larger
-putIn-larger : (M : List ℕ) (slot v : ℕ) → slot < length M → LacksAt M slot v → Subset M (putIn M slot v)
-putIn-larger M slot v inside lacks =
-    let m = getD M slot 0 in
-    record {
-      len = sym (length-set M slot (m + 2 ^ v));
-      bits = λ s x.
-          dite (ℕ-discrete s slot)
-          (λ here.
-          rw (here, getD-set-same M slot (m + 2 ^ v) 0 inside)
-          (dite (ℕ-discrete x v) (λ same. rw (same, lacks) zero-le) (λ other. le-of-eq (sym (testBit-put-other m v x lacks other)))))
-          (λ other. rw (getD-set-other M slot s (m + 2 ^ v) 0 other) (le-refl _));
-    }
-
-restores-larger : (trail : List ℕ) (from j : ℕ) (M′ M : List ℕ) → Restores trail from j M′ M → Subset M′ M
-restores-larger trail from zero M′ M restores = rw (restores-done trail from M′ M restores) (subset-refl M)
-restores-larger trail from (suc j) M′ M restores =
-    let next = restores-next trail from j M′ M restores in
-    subset-trans (putIn-larger M′ _ _ (next .inside) (next .lacks)) (restores-larger trail from j _ M (next .rest))
-
--- ---- Undone
-module _ {masks cells trail L U : List ℕ} {n k from to : ℕ} (undoable : Undoable masks cells trail L U n k from to) {masks′ : List ℕ}
-    (put-back : PutBack masks trail from to masks′) where
-  pub put-back-larger : Subset masks masks′
-  put-back-larger =
-      let back = undoable .backable in
-      rw (put-back .restored (back .old) (back .restores)) (restores-larger trail from (to - from) masks (back .old) (back .restores))
-
-  -- no corner is broken in the larger list
-  pub undone-built : {cells′ : List ℕ} (r : Bool) → AllBuilt n k L U masks′ cells cells′ r → Undone masks cells trail L U n k from to masks′ cells′
-  undone-built true built = record { put-back = put-back; cells-size = built .size; mirror = λ T rises mirror. built .meaning T rises }
-  undone-built false built =
-      record {
-        put-back = put-back;
-        cells-size = built .size;
-        mirror = λ T rises mirror.
-            let broken = built .meaning T rises in
-            absurd (mirror-larger put-back-larger (undoable .alive) mirror (broken .0) (broken .1) (broken .2) (broken .3) (broken .4));
-      }
+      record { restored = λ old c restores. restores-done n k trail from masks cells old c (rw none at (putting .rest old c restores)) }
 
 -- ---- after a call of the filter, from m to m′
-module _ {m c t m′ c′ t′ : List ℕ} {top h : ℕ} (moved : Moved m c t top m′ c′ t′ h) where
-  pub moved-backable : {n k : ℕ} → World m c t n k top → Backable m′ t′ top h
-  moved-backable world =
+module _ {n k : ℕ} {m c t m′ c′ t′ : List ℕ} {top h : ℕ} (moved : Moved n k m c t top m′ c′ t′ h) where
+  pub moved-undoable : World m c t n k top → Undoable m′ c′ t′ n k top h
+  moved-undoable world =
+      let after = world-moved world moved in
       record {
+        sizes = record { slots = after .slots; rows = after .rows; slots-fit = after .slots-fit; values-fit = after .values-fit };
         order = moved .trailed .up;
-        upto = omega (arith, moved .height, moved .trailed .size, world .room);
+        upto = omega (arith, after .room);
         old = m;
+        old-cells = c;
         restores = moved .trailed .back;
       }
 
-  pub moved-undoable : {n k : ℕ} {L U : List ℕ} → World m c t n k top → n < length L → n < length U → Undoable m′ c′ t′ L U n k top h
-  moved-undoable world lowers-in uppers-in =
-      let after = world-moved world moved in
-      record {
-        backable = moved-backable world;
-        alive = after .alive;
-        building = record {
-          slots-fit = omega (arith, after .slots-fit);
-          values-fit = after .values-fit;
-          rises-in = lowers-in;
-          slots = after .slots;
-          rows = after .rows;
-        };
-        uppers-in = uppers-in;
-      }
-
-  module _ {L U m″ c″ : List ℕ} {n k : ℕ} (undone : Undone m′ c′ t′ L U n k top h m″ c″) where
-    pub moved-undone : m″ ≡ m
-    moved-undone = undone .put-back .restored m (moved .trailed .back)
-
-    pub moved-mirror : {T : Table} → TableRises n k T L U → Mirror n k T m′ c′ → Mirror n k T m c″
-    moved-mirror {T} rises mirror = rw moved-undone at (undone .mirror T rises mirror)
+  pub moved-undone : {m″ c″ : List ℕ} → Undone m′ c′ t′ n k top h m″ c″ → (m″ ≡ m) × (c″ ≡ c)
+  moved-undone undone = undone .restored m c (moved .trailed .back)

@@ -1,37 +1,63 @@
--- Taking calls back: the trail from a height on is put back into the masks, and the cells follow. `Restores` of filter_model says what the
--- trail restores.
---   Backable masks trail from to   the trail from `from` up to `to` restores a list from these masks (`moved-backable`: so it is after a call)
---   PutBack masks trail ..         the masks at exit are that list
---   Undoable                       what `undo` needs
---   Undone                         the masks are that list, and the cells mirror each table with the rises that they mirrored at entry
+-- Taking calls back: the strikes that the trail has from a height on are taken back, the latest first, in the masks and in the cells. `Restores`
+-- of filter_model says what the trail restores.
+--   Sizes masks cells n k    n slots and k values, and room for the cells of both kinds
+--   RowUndoing, UpperUndoing   what a row's fall needs to be taken back, and that of a fixed slot's upper row
+--   UpperUndone              the cells at exit are those before the upper fall
+--   StrikeUndoing            the strike i may be taken back from these masks and cells
+--   StrikeUndone             the masks and cells at exit are those before it
+--   Undoable                 what `undo` needs: the trail from `from` up to `to` restores some masks and cells (`moved-undoable`: so it is after a call)
+--   Undone                   the masks and cells at exit are those
 -- Assumes nothing.
 use mathlib.Core.Path.{_≡_}
 use mathlib.Core.List.{List}
-use Prim.Native.Nat.{ℕ, _-_, _≤_, _<_}
+use Prim.Native.Nat.{ℕ, _+_, _*_, _-_, _≤_, _<_}
 use lib.ListN.{length}
-use Rattle.domains.specs.Masks.{Alive}
-use Rattle.closing_model.specs.Table.{Table}
-use Rattle.filter_model.specs.Mirror.{Mirror}
-use Rattle.filter_model.specs.Rises.{TableRises}
-use Rattle.filter_model.specs.Trail.{Restores}
-use Rattle.opening.specs.Built.{Building}
+use Rattle.segments_model.specs.Part.{part}
+use Rattle.segments_model.specs.Raise.{Raisable}
+use Rattle.filter_model.specs.Trail.{slotAt, valueAt, noteAt, UpperRaised, TakenBack, Restores}
 
-pub record Backable (masks trail : List ℕ) (from to : ℕ) : Type 0 where
-  pub order : from ≤ to
-  pub upto : to ≤ length trail
+pub record Sizes (masks cells : List ℕ) (n k : ℕ) : Type 0 where
+  pub slots : n ≤ length masks
+  pub rows : (k + k) * (n + 1) ≤ length cells
+  pub slots-fit : n ≤ 256
+  pub values-fit : k ≤ 32
+
+pub record RowUndoing (cells : List ℕ) (row n slot note : ℕ) : Type 0 where
+  pub slot-in : slot ≤ n
+  pub row-in : row * (n + 1) + n < length cells
+  pub slots-fit : n < 65536
+  pub raisable : Raisable n slot note (part (row * (n + 1)) (n + 1) cells)
+
+pub record UpperUndoing (masks cells trail : List ℕ) (n k slot : ℕ) : Type 0 where
+  pub sizes : Sizes masks cells n k
+  pub slot-in : slot < n
+  pub note-in : n ≤ length trail
+  pub before : List ℕ
+  pub raised : UpperRaised n k trail masks slot cells before
+
+pub record UpperUndone (masks cells trail : List ℕ) (n k slot : ℕ) (cells′ : List ℕ) : Type 0 where
+  pub restored : (before : List ℕ) → UpperRaised n k trail masks slot cells before → cells′ ≡ before
+
+pub record StrikeUndoing (masks cells trail : List ℕ) (n k i : ℕ) : Type 0 where
+  pub sizes : Sizes masks cells n k
+  pub strike-in : n + 3 * i + 2 < length trail
   pub old : List ℕ
-  pub restores : Restores trail from (to - from) masks old
+  pub old-cells : List ℕ
+  pub taken : TakenBack n k trail (slotAt n trail i) (valueAt n trail i) (noteAt n trail i) masks cells old old-cells
 
-pub record PutBack (masks trail : List ℕ) (from to : ℕ) (masks′ : List ℕ) : Type 0 where
-  pub restored : (old : List ℕ) → Restores trail from (to - from) masks old → masks′ ≡ old
+pub record StrikeUndone (masks cells trail : List ℕ) (n k i : ℕ) (masks′ cells′ : List ℕ) : Type 0 where
+  pub restored : (old old-cells : List ℕ)
+      → TakenBack n k trail (slotAt n trail i) (valueAt n trail i) (noteAt n trail i) masks cells old old-cells
+      → (masks′ ≡ old) × (cells′ ≡ old-cells)
 
-pub record Undoable (masks cells trail lowers uppers : List ℕ) (n k from to : ℕ) : Type 0 where
-  pub backable : Backable masks trail from to
-  pub alive : Alive masks
-  pub building : Building cells lowers masks n k
-  pub uppers-in : n < length uppers
+pub record Undoable (masks cells trail : List ℕ) (n k from to : ℕ) : Type 0 where
+  pub sizes : Sizes masks cells n k
+  pub order : from ≤ to
+  pub upto : n + 3 * to ≤ length trail
+  pub old : List ℕ
+  pub old-cells : List ℕ
+  pub restores : Restores n k trail from (to - from) masks cells old old-cells
 
-pub record Undone (masks cells trail lowers uppers : List ℕ) (n k from to : ℕ) (masks′ cells′ : List ℕ) : Type 0 where
-  pub put-back : PutBack masks trail from to masks′
-  pub cells-size : length cells′ ≡ length cells
-  pub mirror : (T : Table) → TableRises n k T lowers uppers → Mirror n k T masks cells → Mirror n k T masks′ cells′
+pub record Undone (masks cells trail : List ℕ) (n k from to : ℕ) (masks′ cells′ : List ℕ) : Type 0 where
+  pub restored : (old old-cells : List ℕ) → Restores n k trail from (to - from) masks cells old old-cells
+      → (masks′ ≡ old) × (cells′ ≡ old-cells)

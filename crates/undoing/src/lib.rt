@@ -1,43 +1,66 @@
-// Undo: takes calls of the filter back. The values that the trail has from a height on are put back into the masks, and the cells are built
-// again. Nothing is refused here. The contracts cite `specs/Undone.antt` and filter_model's `specs/Trail.antt`.
+// Undo: takes calls of the filter back. Each strike that the trail has from a height on is taken back, the latest first: its falls by their
+// notes, and its value into the masks. Nothing is refused here. The contracts cite `specs/Undone.antt` and filter_model's `specs/Trail.antt`.
 ghost use mathlib.Core.Path.{_≡_};
-ghost use Prim.Native.Nat.{_<_};
+ghost use Prim.Native.Nat.{_+_, _*_, _<_};
 ghost use lib.ListN.{length};
 ghost use Rattle.settling_model.specs.Settled.{LacksAt};
+ghost use Rattle.segments_model.specs.Part.{over};
+ghost use Rattle.segments_model.specs.Raise.{risen};
 ghost use Rattle.filter_model.specs.Trail.{putIn};
-ghost use Rattle.undoing.specs.Undone.{Backable, PutBack, Undoable, Undone};
+ghost use Rattle.undoing.specs.Undone.{RowUndoing, UpperUndoing, UpperUndone, StrikeUndoing, StrikeUndone, Undoable, Undone};
 
 // Takes back what was struck while the trail grew from height `from` to height `to`, in the masks and in the cells.
 pub fn undo(
     masks: &mut [u32],
     cells: &mut [u16],
-    trail: &[u16],
-    lowers: &[u32],
-    uppers: &[u32],
+    trail: &[u8],
     n: usize,
     k: u32,
     from: usize,
     to: usize,
 )
-    requires { ⌜ Undoable (now masks) (now cells) (now trail) (now lowers) (now uppers) n k from to ⌝ }
-    ensures { λ _. ⌜ Undone (now (masks .entry)) (now (cells .entry)) (now (trail .entry)) (now (lowers .entry)) (now (uppers .entry)) n k from to
-        (now (masks .exit)) (now (cells .exit)) ⌝ }
-{
-    put_back(masks, trail, from, to);
-    opening::build_all(cells, lowers, uppers, masks, n, k);
-}
-
-// Puts the values back that the trail has from height `from` up to height `to`, the latest first.
-fn put_back(masks: &mut [u32], trail: &[u16], from: usize, to: usize)
-    requires { ⌜ Backable (now masks) (now trail) from to ⌝ }
-    ensures { λ _. ⌜ PutBack (now (masks .entry)) (now (trail .entry)) from to (now (masks .exit)) ⌝ }
+    requires { ⌜ Undoable (now masks) (now cells) (now trail) n k from to ⌝ }
+    ensures { λ _. ⌜ Undone (now (masks .entry)) (now (cells .entry)) (now (trail .entry)) n k from to (now (masks .exit)) (now (cells .exit)) ⌝ }
 {
     let mut i = to;
     while from < i {
         i -= 1;
-        let e = wide(trail[i]);
-        put_in(masks, (e / 32) as usize, e % 32);
+        take_back(masks, cells, trail, n, k, i);
     }
+}
+
+// Takes the strike i back, the latest that is left.
+fn take_back(masks: &mut [u32], cells: &mut [u16], trail: &[u8], n: usize, k: u32, i: usize)
+    requires { ⌜ StrikeUndoing (now masks) (now cells) (now trail) n k i ⌝ }
+    ensures { λ _. ⌜ StrikeUndone (now (masks .entry)) (now (cells .entry)) (now (trail .entry)) n k i (now (masks .exit)) (now (cells .exit)) ⌝ }
+{
+    let p = n + 3 * i;
+    let slot = wide(trail[p]);
+    let v = trail[p + 1] as u32;
+    raise_fixed(masks, cells, trail, n, k, slot);
+    raise_row(cells, v, n, slot, wide(trail[p + 2]));
+    put_in(masks, slot, v);
+}
+
+// Where the slot is fixed: takes the fall of its value's upper row back.
+fn raise_fixed(masks: &[u32], cells: &mut [u16], trail: &[u8], n: usize, k: u32, slot: usize)
+    requires { ⌜ UpperUndoing (now masks) (now cells) (now trail) n k slot ⌝ }
+    ensures { λ _. ⌜ UpperUndone (now (masks .entry)) (now (cells .entry)) (now (trail .entry)) n k slot (now (cells .exit)) ⌝ }
+{
+    let m = masks[slot];
+    if !domains::is_single(m) {
+        return;
+    }
+    let w = domains::single_value(m);
+    raise_row(cells, k + w, n, slot, wide(trail[slot]));
+}
+
+// Takes the fall of a row after the slot back, by its note.
+fn raise_row(cells: &mut [u16], row: u32, n: usize, slot: usize, note: usize)
+    requires { ⌜ RowUndoing (now cells) row n slot note ⌝ }
+    ensures { λ _. ⌜ now (cells .exit) ≡ over (row * (n + 1)) (n + 1) (risen n slot note) (now (cells .entry)) ⌝ }
+{
+    segments::raise_in(cells, row as usize * (n + 1), n, slot, note);
 }
 
 // Puts value v into the slot, where it is not.
@@ -48,8 +71,8 @@ fn put_in(masks: &mut [u32], slot: usize, v: u32)
     masks[slot] = domains::with(masks[slot], v);
 }
 
-fn wide(x: u16) -> u32
+fn wide(x: u8) -> usize
     ensures { λ r. ⌜ r ≡ x ⌝ }
 {
-    x as u32
+    x as usize
 }

@@ -1,28 +1,59 @@
--- `undoing::undo` meets its contract: the masks grow back, so no corner is broken and the cells that are built mirror them (`undone-built`).
--- Assumes nothing.
+-- `undoing::undo` meets its contract. The invariant of its loop: the strikes below i restore the old masks and cells from those at hand
+-- (`Putting`). The measure is i. Each turn is `putting-step`. Assumes nothing.
 use borrow.Author.Needs.{needs}
-use Rattle.undoing.proofs.UndoneLaws.{undone-built}
+use Rattle.undoing.proofs.UndoneLaws.{Putting, putting-start, putting-undoing, putting-step, putting-end}
 use Rattle.undoing.proofs.undo.Statement.{statement}
 use Rattle.undoing.proofs.undo.Tie as tie
 
-put-back-requires : tie.Need-put-back-requires
-put-back-requires c κs = search needs
+abbrev Inv-loop : tie.InvT-loop
+Inv-loop masks₀ cells₀ trail n k from to i₀ masks cells i = Putting masks₀ cells₀ trail n k from to masks cells i
 
-build-all-requires : tie.Need-build-all-requires
-build-all-requires c κs = search needs
+abbrev μ-loop : tie.MeasureT-loop
+μ-loop masks₀ cells₀ trail n k from to i₀ masks cells i = i
 
-same-length : tie.Need-same-length
-same-length c = search needs
+loop-holds : tie.Need-loop-holds Inv-loop μ-loop
+loop-holds c =
+    putting-start _ _ _ _ _ _ _ (c .before .before .before .pre .order)
 
-same-length-2 : tie.Need-same-length-2
-same-length-2 c = search needs
+sub-i : tie.Need-sub-i Inv-loop μ-loop
+sub-i c =
+    search needs
 
-returns : tie.Need-returns
+take-back-requires : tie.Need-take-back-requires Inv-loop μ-loop
+take-back-requires c κs =
+    putting-undoing (c .before .before .before .loop .inv) (c .before .before .loop-test .taken) (c .before .before .before .before .before .before .before .pre)
+
+loop-less : tie.Need-loop-less Inv-loop μ-loop
+loop-less c =
+    search needs
+
+loop-again : tie.Need-loop-again Inv-loop μ-loop
+loop-again c =
+    putting-step (c .before .before .before .before .before .before .before .before .loop .inv) (c .before .before .before .before .before .before .before .loop-test .taken) (c .before .before .before .before .take-back .kept .0) (c .before .before .before .before .take-back .kept .1 .0) (c .before .before .before .before .take-back .ensures)
+
+same-length : tie.Need-same-length Inv-loop μ-loop
+same-length c =
+    c .before .loop .inv .masks-size
+
+same-length-2 : tie.Need-same-length-2 Inv-loop μ-loop
+same-length-2 c =
+    c .before .loop .inv .cells-size
+
+returns : tie.Need-returns Inv-loop μ-loop
 returns c =
-    let put-back = c .before .before .before .before .before .before .before .put-back in
-    let pre = c .before .before .before .before .before .before .before .before .before .before .before .before .before .before .pre in
-    undone-built (pre) (put-back .ensures) _ (c .before .before .build-all .ensures)
+    putting-end (c .before .loop .inv) (c .loop-test .left)
 
 pub undo-spec : {M : Type 1} → statement M
 undo-spec =
-    tie.close (tie.spec put-back-requires build-all-requires same-length same-length-2 returns)
+    tie.close
+    (tie.spec
+    Inv-loop
+    μ-loop
+    loop-holds
+    sub-i
+    take-back-requires
+    loop-less
+    loop-again
+    same-length
+    same-length-2
+    returns)
