@@ -15,7 +15,7 @@ use Rattle.settling_model.specs.Book.{bookStart, closedBook, settledBook, none-
 use Rattle.settling_model.proofs.BookLaws.{closedBook-loosest, closedBook-none, settles-settledBook, dead-settledBook}
 use Rattle.filter_model.specs.Rises.{TableRises}
 use Rattle.filter_model.specs.State.{World}
-use Rattle.filter_model.proofs.StateLaws.{world-moved}
+use Rattle.filter_model.proofs.StateLaws.{world-cells, world-moved}
 use Rattle.filter.specs.declared.Outcome.{Outcome}
 use Rattle.filter.specs.declared.Outcome.the-variants.{Live, Dead}
 use Rattle.opening.specs.Opened.{Rooms, OpenAnswer}
@@ -73,7 +73,7 @@ module _ (b : List ℕ) {L U : List ℕ} (book : ClosedBook b L U) where
             settles-settledBook b M′ (record { table = view (book .lowers) (book .uppers); loosest = loosest; largest = opened .largest (loosest .closed) });
         rises = book .rises;
         mirror = opened .mirror;
-        world = world-moved world (answer .moved);
+        world = world-moved (world-cells (answer .size) world) (answer .moved);
       }
   opened-book (Dead h) world answer =
       dead-settledBook b (none-stable (view (book .lowers) (book .uppers)) loosest (answer .meaning (view (book .lowers) (book .uppers)) (book .rises)))
@@ -81,7 +81,7 @@ module _ (b : List ℕ) {L U : List ℕ} (book : ClosedBook b L U) where
 -- ---- StateRoom
 
 -- arrays for 256 slots and 32 values
-pub state-room : {b M : List ℕ} (cells trail L U : List ℕ) → Ready b M → 16448 ≤ length cells → 8192 ≤ length trail → 257 ≤ length L → 257 ≤ length U
+pub state-room : {b M : List ℕ} (cells trail L U : List ℕ) → Ready b M → 16448 ≤ length cells → 24832 ≤ length trail → 257 ≤ length L → 257 ≤ length U
     → StateRoom b M cells trail L U
 state-room {b} cells trail L U ready long-cells long-trail long-L long-U =
     let fit = ready .book in
@@ -89,7 +89,7 @@ state-room {b} cells trail L U ready long-cells long-trail long-L long-U =
       rises = record { book = fit; lowers = omega (arith, fit .slots-most); uppers = omega (arith, fit .slots-most) };
       masks-in = ready .masks;
       cells-in = le-trans (mul-le-mul {n₂ = 64} {m₂ = 257} (omega (arith, fit .values-most)) (omega (arith, fit .slots-most))) long-cells;
-      trail-in = le-trans (mul-le-mul (fit .values-most) (fit .slots-most)) long-trail;
+      trail-in = omega (arith, mul-le-mul {n₂ = 32} {m₂ = 256} (fit .values-most) (fit .slots-most), fit .slots-most);
     }
 
 -- ---- from the masks that are loaded, for the n and k that were read

@@ -12,7 +12,7 @@ pub fn open_book(
     book: &[u8],
     masks: &mut [u32],
     cells: &mut [u16],
-    trail: &mut [u16],
+    trail: &mut [u8],
     lower_rises: &mut [u32],
     upper_rises: &mut [u32],
 ) -> Outcome
