@@ -36,25 +36,23 @@ use Rattle.session.specs.declared.Standing.the-variants.{OpenedDead, Liv
 use Rattle.session.proofs.PileLaws.{pile-none}
 
 -- ---- Opens; the lengths are those at entry
-module _ {b m c t L U m′ c′ t′ L′ U′ : List ℕ} (openable : Openable b m c t L U) (masks-kept : length m′ ≡ length m) (cells-kept : length c′ ≡ length c)
-    (trail-kept : length t′ ≡ length t) (lowers-kept : length L′ ≡ length L) (uppers-kept : length U′ ≡ length U) where
-  opens-room : Room m′ c′ t′ L′ U′ (Layout.slots b) (Layout.values b)
+module _ {b m c t L U m′ c′ t′ : List ℕ} (openable : Openable b m c t L U) (masks-kept : length m′ ≡ length m) (cells-kept : length c′ ≡ length c)
+    (trail-kept : length t′ ≡ length t) where
+  opens-room : Room m′ c′ t′ (Layout.slots b) (Layout.values b)
   opens-room =
       let state = openable .state in
       let fit = state .rises .book in
       record {
         masks-in = masks-kept ∙ state .masks-in;
         rows = omega (arith, cells-kept, state .cells-in);
-        lowers-in = omega (arith, lowers-kept, state .rises .lowers);
-        uppers-in = omega (arith, uppers-kept, state .rises .uppers);
         slots-fit = omega (arith, fit .slots-most);
         values-fit = fit .values-most;
         heights-fit = omega (arith, trail-kept, openable .heights-fit);
       }
 
-  state-working : {h : ℕ} (heights : List ℕ) (limit : ℕ) → BookState b m′ c′ t′ L′ U′ h
-      → Working (rulesOf b limit) [] m′ c′ t′ heights L′ U′ (Layout.slots b) (Layout.values b) h
-  state-working {h} heights limit state =
+  state-working : {L′ U′ : List ℕ} {h : ℕ} (heights : List ℕ) (limit : ℕ) → BookState b m′ c′ t′ L′ U′ h
+      → Working (rulesOf b limit) [] m′ c′ t′ heights (Layout.slots b) (Layout.values b) h
+  state-working {h = h} heights limit state =
       let n = Layout.slots b in
       let k = Layout.values b in
       let T = view (state .lowers) (state .uppers) in
@@ -69,7 +67,6 @@ module _ {b m c t L U m′ c′ t′ L′ U′ : List ℕ} (openable : Openable 
               settle = rulesOf-closed b limit (state .lowers) (state .uppers) closes;
               standing = rulesOf-standing b limit (state .lowers) (state .uppers) closes;
             };
-        rises = state .rises;
         mirror = state .mirror;
         base =
             record {
@@ -78,18 +75,18 @@ module _ {b m c t L U m′ c′ t′ L′ U′ : List ℕ} (openable : Openable 
               values = state .world .values;
               room = state .world .room;
             };
-        pile = pile-none n k T t′ heights m′ h;
+        pile = pile-none n k T t′ heights m′ c′ h;
       }
 
   at-opening : {session : Session} {o : Rules × State} (heights : List ℕ)
       → o ≡ opened (rulesOf b (length heights)) (rulesOf b (length heights) .settle (Layout.masks b))
-      → Represents (o .0) (o .1) m′ c′ t′ heights L′ U′ (Layout.slots b) (Layout.values b) session
-      → Represents (openedRules b (length heights)) (openedState b (length heights)) m′ c′ t′ heights L′ U′ (Layout.slots b) (Layout.values b) session
+      → Represents (o .0) (o .1) m′ c′ t′ heights (Layout.slots b) (Layout.values b) session
+      → Represents (openedRules b (length heights)) (openedState b (length heights)) m′ c′ t′ heights (Layout.slots b) (Layout.values b) session
   at-opening {session} heights is represents =
-      subst (λ (o : Rules × State). Represents (o .0) (o .1) m′ c′ t′ heights L′ U′ (Layout.slots b) (Layout.values b) session) is represents
+      subst (λ (o : Rules × State). Represents (o .0) (o .1) m′ c′ t′ heights (Layout.slots b) (Layout.values b) session) is represents
 
-  live-represents : {h : ℕ} → BookState b m′ c′ t′ L′ U′ h → (heights : List ℕ)
-      → Represents (openedRules b (length heights)) (openedState b (length heights)) m′ c′ t′ heights L′ U′ (Layout.slots b) (Layout.values b)
+  live-represents : {L′ U′ : List ℕ} {h : ℕ} → BookState b m′ c′ t′ L′ U′ h → (heights : List ℕ)
+      → Represents (openedRules b (length heights)) (openedState b (length heights)) m′ c′ t′ heights (Layout.slots b) (Layout.values b)
       (record { standing = Live; top = h; marks = 0 })
   live-represents state heights =
       at-opening heights (sym (opened-live (rulesOf b (length heights)) (Layout.masks b) m′ (rulesOf-settle b (length heights) ∙ state .settled)))
@@ -103,14 +100,14 @@ module _ {b m c t L U m′ c′ t′ L′ U′ : List ℕ} (openable : Openable 
         stands = state-working heights (length heights) state;
       })
 
-  pub opens-live : {h : ℕ} (r : Outcome) → r ≡ Outcomes.Live h → OpensBook b m′ c′ t′ L′ U′ r
-      → Opens b m′ c′ t′ L′ U′ (record { standing = Live; top = h; marks = 0 })
-  opens-live {h} r is opens =
+  pub opens-live : (L′ U′ : List ℕ) {h : ℕ} (r : Outcome) → r ≡ Outcomes.Live h → OpensBook b m′ c′ t′ L′ U′ r
+      → Opens b m′ c′ t′ (record { standing = Live; top = h; marks = 0 })
+  opens-live L′ U′ {h} r is opens =
       let state : BookState b m′ c′ t′ L′ U′ h = subst (λ (o : Outcome). OpensBook b m′ c′ t′ L′ U′ o) is opens in
       record { represents = live-represents state; standing = rw (state .settled) refl }
 
   dead-represents : settledBook b ≡ none → m′ ≡ replicate (length m) 0 → (heights : List ℕ)
-      → Represents (openedRules b (length heights)) (openedState b (length heights)) m′ c′ t′ heights L′ U′ (Layout.slots b) (Layout.values b)
+      → Represents (openedRules b (length heights)) (openedState b (length heights)) m′ c′ t′ heights (Layout.slots b) (Layout.values b)
       (record { standing = OpenedDead; top = 0; marks = 0 })
   dead-represents dies cleared heights =
       at-opening heights (sym (opened-dead (rulesOf b (length heights)) (Layout.masks b) (rulesOf-settle b (length heights) ∙ dies)))
@@ -124,9 +121,9 @@ module _ {b m c t L U m′ c′ t′ L′ U′ : List ℕ} (openable : Openable 
         stands = record { saved-none = refl; standing = λ kind M v. refl };
       })
 
-  pub opens-dead : (m₁ : List ℕ) {h : ℕ} (r : Outcome) → r ≡ Outcomes.Dead h → OpensBook b m₁ c′ t′ L′ U′ r → m′ ≡ replicate (length m) 0
-      → Opens b m′ c′ t′ L′ U′ (record { standing = OpenedDead; top = 0; marks = 0 })
-  opens-dead m₁ {h} r is opens cleared =
+  pub opens-dead : (m₁ L′ U′ : List ℕ) {h : ℕ} (r : Outcome) → r ≡ Outcomes.Dead h → OpensBook b m₁ c′ t′ L′ U′ r → m′ ≡ replicate (length m) 0
+      → Opens b m′ c′ t′ (record { standing = OpenedDead; top = 0; marks = 0 })
+  opens-dead m₁ L′ U′ {h} r is opens cleared =
       let dies : settledBook b ≡ none = subst (λ (o : Outcome). OpensBook b m₁ c′ t′ L′ U′ o) is opens in
       record { represents = dead-represents dies cleared; standing = rw dies refl }
 
@@ -149,18 +146,18 @@ opening-live (some M) = refl
 shut-live : (standing : Standing) (settled : Option (List ℕ)) → standingOf standing ≡ Model.opening settled → not (isShut standing) ≡ opensLive settled
 shut-live standing settled is = ap not (shut-model standing ∙ ap shutModel is) ∙ opening-live settled
 
-module _ {b m c t L U : List ℕ} {fresh : Session} (opens : Opens b m c t L U fresh) {n k : ℕ} (n-is : n ≡ Layout.slots b) (k-is : k ≡ Layout.values b)
+module _ {b m c t : List ℕ} {fresh : Session} (opens : Opens b m c t fresh) {n k : ℕ} (n-is : n ≡ Layout.slots b) (k-is : k ≡ Layout.values b)
     (heights : List ℕ) where
-  opened-represents : Represents (openedRules b (length heights)) (openedState b (length heights)) m c t heights L U n k fresh
+  opened-represents : Represents (openedRules b (length heights)) (openedState b (length heights)) m c t heights n k fresh
   opened-represents = rw (n-is, k-is) (opens .represents heights)
 
-  pub opened-running : Running m c t heights L U n k fresh
+  pub opened-running : Running m c t heights n k fresh
   opened-running =
       record { rules = openedRules b (length heights); state = openedState b (length heights); represents = opened-represents }
 
   pub book-ran : (calls : List ℕ) {answers answers′ m′ c′ t′ h′ : List ℕ} {session : Session} (shut : Bool) → shut ≡ isShut (fresh .standing)
-      → Runs L U n k (callsOf calls) fresh m c t heights answers session m′ c′ t′ h′ answers′
-      → BookRan b calls (length heights) answers answers′ m′ c′ t′ h′ L U (record { session = session; live = not shut })
+      → Runs n k (callsOf calls) fresh m c t heights answers session m′ c′ t′ h′ answers′
+      → BookRan b calls (length heights) answers answers′ m′ c′ t′ h′ (record { session = session; live = not shut })
   unfolding run
   book-ran calls shut shut-is ran =
       let limit = length heights in

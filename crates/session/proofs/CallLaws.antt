@@ -35,24 +35,25 @@ act-mark : (R : Rules) (S : State)
 unfolding act
 act-mark R S = refl
 
-working-mark : {R : Rules} {saved : List (List ℕ)} {masks cells trail heights L U : List ℕ} {n k top : ℕ} (M : List ℕ) (marks : ℕ)
-    → M ≡ masks → length saved ≡ marks → marks < length heights → Working R saved masks cells trail heights L U n k top
-    → Working R (M ∷ saved) masks cells trail (set heights marks top) L U n k top
-working-mark {R} {saved} {masks} {cells} {trail} {heights} {L} {U} {n} {k} {top} M marks M-is marks-are free working =
+working-mark : {R : Rules} {saved : List (List ℕ)} {masks cells trail heights : List ℕ} {n k top : ℕ} (M : List ℕ) (marks : ℕ)
+    → M ≡ masks → length saved ≡ marks → marks < length heights → Working R saved masks cells trail heights n k top
+    → Working R (M ∷ saved) masks cells trail (set heights marks top) n k top
+working-mark {R} {saved} {masks} {cells} {trail} {heights} {n} {k} {top} M marks M-is marks-are free working =
     rw (M-is, ← marks-are)
     (record {
       table = working .table;
       rules = working .rules;
-      rises = working .rises;
       mirror = working .mirror;
       base = working .base;
-      pile = pile-mark n k (working .table) trail heights masks top saved (omega (arith, marks-are, free)) (working .base) (working .pile);
+      pile = 
+          pile-mark n k (working .table) trail heights masks cells top saved (omega (arith, marks-are, free)) (working .mirror) (working .base)
+          (working .pile);
     })
 
-mark-answered : {R : Rules} {S : State} {masks cells trail heights L U : List ℕ} {n k : ℕ} {session : Session}
-    → Represents R S masks cells trail heights L U n k session → Marking heights session → (i : ℕ)
+mark-answered : {R : Rules} {S : State} {masks cells trail heights : List ℕ} {n k : ℕ} {session : Session}
+    → Represents R S masks cells trail heights n k session → Marking heights session → (i : ℕ)
     → Answered R (act R S Calls.mark) (stand (standingOf (session .standing)) i Calls.mark (act R S Calls.mark .1)) masks cells trail
-    (set heights (session .marks) (session .top)) L U n k
+    (set heights (session .marks) (session .top)) n k
     (record { session = record { standing = Live; top = session .top; marks = session .marks + 1 }; first = 3; second = 0 })
 unfolding stand
 mark-answered {R} {S} {heights = heights} {n = n} {k = k} {session} represents marking i =
@@ -82,10 +83,10 @@ mark-answered {R} {S} {heights = heights} {n = n} {k = k} {session} represents m
       standing = refl;
     })
 
-pub mark-acts : {heights : List ℕ} {session : Session} → Marking heights session → (masks cells trail L U : List ℕ) (n k i : ℕ)
-    → Acts L U n k i Calls.mark session masks cells trail heights masks cells trail (set heights (session .marks) (session .top))
+pub mark-acts : {heights : List ℕ} {session : Session} → Marking heights session → (masks cells trail : List ℕ) (n k i : ℕ)
+    → Acts n k i Calls.mark session masks cells trail heights masks cells trail (set heights (session .marks) (session .top))
     (record { session = record { standing = Live; top = session .top; marks = session .marks + 1 }; first = 3; second = 0 })
-mark-acts marking masks cells trail L U n k i = record { does = λ R S represents. mark-answered represents marking i }
+mark-acts marking masks cells trail n k i = record { does = λ R S represents. mark-answered represents marking i }
 
 -- ---- back
 pub record Latest (saved : List (List ℕ)) : Type 0 where
@@ -102,14 +103,14 @@ act-back : (R : Rules) (S : State) (M : List ℕ) (rest : List (List ℕ)) → S
 unfolding act restored
 act-back R S M rest are = rw are refl
 
-module _ {R : Rules} {S : State} {masks cells trail heights L U : List ℕ} {n k : ℕ} {session : Session}
-    (represents : Represents R S masks cells trail heights L U n k session) (marked : 0 < session .marks) where
+module _ {R : Rules} {S : State} {masks cells trail heights : List ℕ} {n k : ℕ} {session : Session}
+    (represents : Represents R S masks cells trail heights n k session) (marked : 0 < session .marks) where
   -- a session with an open mark opened live
-  marked-working : Working R (S .saved) masks cells trail heights L U n k (session .top)
+  marked-working : Working R (S .saved) masks cells trail heights n k (session .top)
   marked-working = go (session .standing) (represents .stands)
     where
-      go : (standing : Standing) → StandsFor standing R (S .saved) masks cells trail heights L U n k (session .top)
-          → Working R (S .saved) masks cells trail heights L U n k (session .top)
+      go : (standing : Standing) → StandsFor standing R (S .saved) masks cells trail heights n k (session .top)
+          → Working R (S .saved) masks cells trail heights n k (session .top)
       go OpenedDead shut =
           let none : length (S .saved) ≡ 0 = ap length (shut .saved-none) in
           absurd (omega (arith, none, represents .marks-are, marked))
@@ -120,61 +121,49 @@ module _ {R : Rules} {S : State} {masks cells trail heights L U : List ℕ} {n k
   marked-latest = latest (S .saved) (omega (arith, represents .marks-are, marked))
 
   module _ (from : ℕ) (from-is : from ≡ getD heights (session .marks - 1) 0) where
-    marked-entry : Entry n k (marked-working .table) trail masks (session .top) (marked-latest .first) from
-        × Pile n k (marked-working .table) trail heights (marked-latest .first) from (marked-latest .rest)
+    marked-entry : (c′ : List ℕ) × Entry n k (marked-working .table) trail masks cells (session .top) (marked-latest .first) c′ from
+        × Pile n k (marked-working .table) trail heights (marked-latest .first) c′ from (marked-latest .rest)
     marked-entry =
         let T = marked-working .table in
         let rest = marked-latest .rest in
-        let pile : Pile n k T trail heights masks (session .top) (marked-latest .first ∷ rest) = subst
-        (λ (saved : List (List ℕ)). Pile n k T trail heights masks (session .top) saved) (marked-latest .are) (marked-working .pile) in
+        let pile : Pile n k T trail heights masks cells (session .top) (marked-latest .first ∷ rest) = subst
+        (λ (saved : List (List ℕ)). Pile n k T trail heights masks cells (session .top) saved) (marked-latest .are) (marked-working .pile) in
         let length-is : length (S .saved) ≡ suc (length rest) = ap length (marked-latest .are) in
         let place : session .marks - 1 ≡ length rest = omega (arith, length-is, represents .marks-are) in
         let height : from ≡ getD heights (length rest) 0 = from-is ∙ ap (λ (i : ℕ). getD heights i 0) place in
-        rw height (pile-first n k T trail heights masks (session .top) (marked-latest .first) rest pile)
+        rw height (pile-first n k T trail heights masks cells (session .top) (marked-latest .first) rest pile)
 
-    back-undoable : Undoable masks cells trail L U n k from (session .top)
+    back-undoable : Undoable masks cells trail n k from (session .top)
     back-undoable =
-        let entry = marked-entry .0 in
+        let entry = marked-entry .1 in
         let room = represents .room in
         record {
-          backable =
-              record {
-                order = entry .order;
-                upto = omega (arith, marked-working .base .room);
-                old = marked-latest .first;
-                restores = entry .back;
-              };
-          alive = marked-working .base .stable .alive;
-          building =
-              record {
-                slots-fit = omega (arith, room .slots-fit);
-                values-fit = room .values-fit;
-                rises-in = room .lowers-in;
-                slots = omega (arith, room .masks-in);
-                rows = room .rows;
-              };
-          uppers-in = room .uppers-in;
+          sizes =
+              record { slots = omega (arith, room .masks-in); rows = room .rows; slots-fit = room .slots-fit; values-fit = room .values-fit };
+          order = entry .order;
+          upto = omega (arith, marked-working .base .room);
+          old = marked-latest .first;
+          old-cells = marked-entry .0;
+          restores = entry .back;
         }
 
-    module _ {masks′ cells′ : List ℕ} (undone : Undone masks cells trail L U n k from (session .top) masks′ cells′) (i : ℕ) where
-      masks-were : masks′ ≡ marked-latest .first
-      masks-were = undone .put-back .restored (marked-latest .first) (marked-entry .0 .back)
+    module _ {masks′ cells′ : List ℕ} (undone : Undone masks cells trail n k from (session .top) masks′ cells′) (i : ℕ) where
+      were : (masks′ ≡ marked-latest .first) × (cells′ ≡ marked-entry .0)
+      were = undone .restored (marked-latest .first) (marked-entry .0) (marked-entry .1 .back)
 
-      back-working : Working R (marked-latest .rest) masks′ cells′ trail heights L U n k from
+      back-working : Working R (marked-latest .rest) masks′ cells′ trail heights n k from
       back-working =
-          let T = marked-working .table in
-          rw masks-were
+          rw (were .0, were .1)
           (record {
-            table = T;
+            table = marked-working .table;
             rules = marked-working .rules;
-            rises = marked-working .rises;
-            mirror = rw masks-were at (undone .mirror T (marked-working .rises) (marked-working .mirror));
-            base = marked-entry .0 .base;
-            pile = marked-entry .1;
+            mirror = marked-entry .1 .mirror;
+            base = marked-entry .1 .base;
+            pile = marked-entry .2;
           })
 
       back-answered : Answered R (act R S Calls.back) (stand (standingOf (session .standing)) i Calls.back (act R S Calls.back .1)) masks′ cells′ trail
-          heights L U n k (record { session = record { standing = Live; top = from; marks = session .marks - 1 }; first = 3; second = 0 })
+          heights n k (record { session = record { standing = Live; top = from; marks = session .marks - 1 }; first = 3; second = 0 })
       unfolding stand
       back-answered =
           let room = represents .room in
@@ -185,16 +174,14 @@ module _ {R : Rules} {S : State} {masks cells trail heights L U : List ℕ} {n k
                 record {
                   room =
                       record {
-                        masks-in = ap length masks-were ∙ marked-entry .0 .base .size;
+                        masks-in = ap length (were .0) ∙ marked-entry .1 .base .size;
                         rows = omega (arith, undone .cells-size, room .rows);
-                        lowers-in = room .lowers-in;
-                        uppers-in = room .uppers-in;
                         slots-fit = room .slots-fit;
                         values-fit = room .values-fit;
                         heights-fit = room .heights-fit;
                       };
                   suits = represents .suits;
-                  masks-are = sym masks-were;
+                  masks-are = sym (were .0);
                   flag = refl;
                   marks-are = omega (arith, length-is, represents .marks-are);
                   marks-in = omega (arith, represents .marks-in);
@@ -205,13 +192,13 @@ module _ {R : Rules} {S : State} {masks cells trail heights L U : List ℕ} {n k
             standing = refl;
           })
 
-module _ {masks cells trail heights L U : List ℕ} {n k : ℕ} {session : Session} (backing : Backing masks cells trail heights L U n k session)
+module _ {masks cells trail heights : List ℕ} {n k : ℕ} {session : Session} (backing : Backing masks cells trail heights n k session)
     {from : ℕ} (from-is : from ≡ getD heights (session .marks - 1) 0) where
-  pub backing-undoable : Undoable masks cells trail L U n k from (session .top)
+  pub backing-undoable : Undoable masks cells trail n k from (session .top)
   backing-undoable = back-undoable (backing .running .represents) (backing .marked) from from-is
 
-  pub back-acts : {masks′ cells′ : List ℕ} → Undone masks cells trail L U n k from (session .top) masks′ cells′ → (i : ℕ)
-      → Acts L U n k i Calls.back session masks cells trail heights masks′ cells′ trail heights
+  pub back-acts : {masks′ cells′ : List ℕ} → Undone masks cells trail n k from (session .top) masks′ cells′ → (i : ℕ)
+      → Acts n k i Calls.back session masks cells trail heights masks′ cells′ trail heights
       (record { session = record { standing = Live; top = from; marks = session .marks - 1 }; first = 3; second = 0 })
   back-acts undone i = record { does = λ R S represents. back-answered represents (backing .marked) from from-is undone i }
 
@@ -224,18 +211,18 @@ act-walls : (R : Rules) (S : State) (kind : Bool) (v : ℕ) → act R S (Calls.w
 unfolding act
 act-walls R S kind v = refl
 
-read-answered : {R : Rules} {S : State} {masks cells trail heights L U : List ℕ} {n k : ℕ} {session : Session} (i : ℕ) (c : Calls.Call) (x y : ℕ)
-    → Represents R S masks cells trail heights L U n k session → act R S c ≡ (S, Machine.value x) → y ≡ x
-    → Answered R (act R S c) (stand (standingOf (session .standing)) i c (act R S c .1)) masks cells trail heights L U n k
+read-answered : {R : Rules} {S : State} {masks cells trail heights : List ℕ} {n k : ℕ} {session : Session} (i : ℕ) (c : Calls.Call) (x y : ℕ)
+    → Represents R S masks cells trail heights n k session → act R S c ≡ (S, Machine.value x) → y ≡ x
+    → Answered R (act R S c) (stand (standingOf (session .standing)) i c (act R S c .1)) masks cells trail heights n k
     (record { session = session; first = 2; second = y })
 unfolding stand
 read-answered i c x y represents acts same =
     rw acts (record { represents = represents; first = refl; second = same; standing = refl })
 
-pub show-acts : (masks : List ℕ) (session : Session) (slot : ℕ) (cells trail heights L U : List ℕ) (n k i : ℕ)
-    → Acts L U n k i (Calls.show slot) session masks cells trail heights masks cells trail heights
+pub show-acts : (masks : List ℕ) (session : Session) (slot : ℕ) (cells trail heights : List ℕ) (n k i : ℕ)
+    → Acts n k i (Calls.show slot) session masks cells trail heights masks cells trail heights
     (record { session = session; first = 2; second = getD masks slot 0 })
-show-acts masks session slot cells trail heights L U n k i =
+show-acts masks session slot cells trail heights n k i =
     record {
       does = λ R S represents.
           read-answered i (Calls.show slot) (getD (S .masks) slot 0) (getD masks slot 0) represents (act-show R S slot)
@@ -248,20 +235,20 @@ is-shut OpenedDead shut = refl
 is-shut Live shut = absurd (true≢false (sym shut))
 is-shut (Dead call) shut = absurd (true≢false (sym shut))
 
-opened-working : {R : Rules} {S : State} {masks cells trail heights L U : List ℕ} {n k : ℕ} {session : Session}
-    → Represents R S masks cells trail heights L U n k session → isShut (session .standing) ≡ false
-    → Working R (S .saved) masks cells trail heights L U n k (session .top)
-opened-working {R} {S} {masks} {cells} {trail} {heights} {L} {U} {n} {k} {session} represents = go (session .standing) (represents .stands)
+opened-working : {R : Rules} {S : State} {masks cells trail heights : List ℕ} {n k : ℕ} {session : Session}
+    → Represents R S masks cells trail heights n k session → isShut (session .standing) ≡ false
+    → Working R (S .saved) masks cells trail heights n k (session .top)
+opened-working {R} {S} {masks} {cells} {trail} {heights} {n} {k} {session} represents = go (session .standing) (represents .stands)
   where
-    go : (standing : Standing) → StandsFor standing R (S .saved) masks cells trail heights L U n k (session .top) → isShut standing ≡ false
-        → Working R (S .saved) masks cells trail heights L U n k (session .top)
+    go : (standing : Standing) → StandsFor standing R (S .saved) masks cells trail heights n k (session .top) → isShut standing ≡ false
+        → Working R (S .saved) masks cells trail heights n k (session .top)
     go OpenedDead shut is = absurd (true≢false is)
     go Live working is = working
     go (Dead call) working is = working
 
 -- the cells of a row count as many as the formula
-walls-words : {n k : ℕ} {R : Rules} {saved : List (List ℕ)} {masks cells trail heights L U : List ℕ} {top : ℕ} (kind : Bool) (v : ℕ) → v < k
-    → Working R saved masks cells trail heights L U n k top → standingIn (cellsOf kind n k v cells) n ≡ R .standing kind masks v
+walls-words : {n k : ℕ} {R : Rules} {saved : List (List ℕ)} {masks cells trail heights : List ℕ} {top : ℕ} (kind : Bool) (v : ℕ) → v < k
+    → Working R saved masks cells trail heights n k top → standingIn (cellsOf kind n k v cells) n ≡ R .standing kind masks v
 walls-words {n} {k} {R} {masks = masks} {cells = cells} true v v<k working =
     standing-words n _ _ (cellsOf true n k v cells) (working .mirror .rows true v v<k .held) ∙ sym (working .rules .standing true masks v)
 walls-words {n} {k} {R} {masks = masks} {cells = cells} false v v<k working =
@@ -277,13 +264,13 @@ walls-row {n = n} {k} {v} lower counting start-is =
     omega (arith, counting .rows, start-is, row-inside n (k + k) (row lower k v) (row-below lower (counting .value-in)))
 
 module _ {cells : List ℕ} {n k v : ℕ} {session : Session} (lower : Bool) where
-  pub walls-shut : isShut (session .standing) ≡ true → (masks trail heights L U : List ℕ) (i : ℕ)
-      → Acts L U n k i (Calls.walls lower v) session masks cells trail heights masks cells trail heights
+  pub walls-shut : isShut (session .standing) ≡ true → (masks trail heights : List ℕ) (i : ℕ)
+      → Acts n k i (Calls.walls lower v) session masks cells trail heights masks cells trail heights
       (record { session = session; first = 2; second = 0 })
-  walls-shut shut masks trail heights L U i =
+  walls-shut shut masks trail heights i =
       record {
         does = λ R S represents.
-            let none = subst (λ (standing : Standing). StandsFor standing R (S .saved) masks cells trail heights L U n k (session .top)) (is-shut (session .standing) shut)
+            let none = subst (λ (standing : Standing). StandsFor standing R (S .saved) masks cells trail heights n k (session .top)) (is-shut (session .standing) shut)
             (represents .stands) in
             read-answered i (Calls.walls lower v) (R .standing lower (S .masks) v) 0 represents (act-walls R S lower v)
             (sym (none .standing lower (S .masks) v));
@@ -291,10 +278,10 @@ module _ {cells : List ℕ} {n k v : ℕ} {session : Session} (lower : Bool) whe
 
   pub walls-stand : isShut (session .standing) ≡ false → v < k → (x start : ℕ) → start ≡ row lower k v * (n + 1)
       → x ≡ standingIn (part start (n + 1) cells) n
-      → (masks trail heights L U : List ℕ) (i : ℕ)
-      → Acts L U n k i (Calls.walls lower v) session masks cells trail heights masks cells trail heights
+      → (masks trail heights : List ℕ) (i : ℕ)
+      → Acts n k i (Calls.walls lower v) session masks cells trail heights masks cells trail heights
       (record { session = session; first = 2; second = x })
-  walls-stand opened v<k x start start-is x-is masks trail heights L U i =
+  walls-stand opened v<k x start start-is x-is masks trail heights i =
       record {
         does = λ R S represents.
             let working = opened-working represents opened in

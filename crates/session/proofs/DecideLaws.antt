@@ -38,13 +38,13 @@ unfolding act decided
 act-dead R S d fails = rw fails refl
 
 -- ---- the answers of a session that is live
-module _ {R : Rules} {S : State} {masks cells trail heights L U : List ℕ} {n k : ℕ} {session : Session}
-    (represents : Represents R S masks cells trail heights L U n k session) (live : session .standing ≡ Live) (i : ℕ) (d : Decision) where
+module _ {R : Rules} {S : State} {masks cells trail heights : List ℕ} {n k : ℕ} {session : Session}
+    (represents : Represents R S masks cells trail heights n k session) (live : session .standing ≡ Live) (i : ℕ) (d : Decision) where
   live-answered : {Q : List ℕ → Type 0} {masks′ cells′ trail′ : List ℕ} {h : ℕ} (x : ℕ)
       → Filtered n k Q Q masks cells trail (session .top) masks′ cells′ trail′ (Outcomes.Live h)
       → R .settle (cut d (S .masks)) ≡ some masks′ → x ≡ R .ones (S .masks) - R .ones masks′
       → Answered R (act R S (Calls.decide d)) (stand (standingOf (session .standing)) i (Calls.decide d) (act R S (Calls.decide d) .1))
-      masks′ cells′ trail′ heights L U n k (record { session = record { standing = Live; top = h; marks = session .marks }; first = 0; second = x })
+      masks′ cells′ trail′ heights n k (record { session = record { standing = Live; top = h; marks = session .marks }; first = 0; second = x })
   unfolding stand
   live-answered {masks′ = masks′} x done settles struck =
       let working = live-working represents live in
@@ -67,9 +67,9 @@ module _ {R : Rules} {S : State} {masks cells trail heights L U : List ℕ} {n k
 
   dead-answered : {Q : List ℕ → Type 0} {masks′ cells′ trail′ masks″ cells″ : List ℕ} {h : ℕ}
       → Filtered n k Q Q masks cells trail (session .top) masks′ cells′ trail′ (Outcomes.Dead h)
-      → Undone masks′ cells′ trail′ L U n k (session .top) h masks″ cells″ → R .settle (cut d (S .masks)) ≡ none
+      → Undone masks′ cells′ trail′ n k (session .top) h masks″ cells″ → R .settle (cut d (S .masks)) ≡ none
       → Answered R (act R S (Calls.decide d)) (stand (standingOf (session .standing)) i (Calls.decide d) (act R S (Calls.decide d) .1))
-      masks″ cells″ trail′ heights L U n k
+      masks″ cells″ trail′ heights n k
       (record { session = record { standing = Dead i; top = session .top; marks = session .marks }; first = 1; second = 0 })
   unfolding stand
   dead-answered done undone fails =
@@ -92,8 +92,8 @@ module _ {R : Rules} {S : State} {masks cells trail heights L U : List ℕ} {n k
       })
 
 -- ---- what the filter and the undoing need
-module _ {masks cells trail heights L U : List ℕ} {n k : ℕ} {session : Session} {slot v : ℕ}
-    (deciding : Deciding masks cells trail heights L U n k session slot v) where
+module _ {masks cells trail heights : List ℕ} {n k : ℕ} {session : Session} {slot v : ℕ}
+    (deciding : Deciding masks cells trail heights n k session slot v) where
   pub deciding-ready : Ready masks cells trail n k (session .top) slot v
   deciding-ready =
       let represents = deciding .running .represents in
@@ -105,7 +105,7 @@ module _ {masks cells trail heights L U : List ℕ} {n k : ℕ} {session : Sessi
 
   pub deciding-undoable : {Q : List ℕ → Type 0} {masks′ cells′ trail′ : List ℕ} {h : ℕ}
       → Filtered n k Q Q masks cells trail (session .top) masks′ cells′ trail′ (Outcomes.Dead h)
-      → Undoable masks′ cells′ trail′ L U n k (session .top) h
+      → Undoable masks′ cells′ trail′ n k (session .top) h
   deciding-undoable done =
       let represents = deciding .running .represents in
       undoable-dead (represents .room) (live-working represents (deciding .live)) done
@@ -115,7 +115,7 @@ module _ {masks cells trail heights L U : List ℕ} {n k : ℕ} {session : Sessi
     pub decide-live : {before after : ℕ}
         → Filtered n k (CutOf assign slot v) (CutOf assign slot v) masks cells trail (session .top) masks′ cells′ trail′ (Outcomes.Live h)
         → before ≡ total masks → after ≡ total masks′
-        → Acts L U n k i (Calls.decide (decisionOf assign slot v)) session masks cells trail heights masks′ cells′ trail′ heights
+        → Acts n k i (Calls.decide (decisionOf assign slot v)) session masks cells trail heights masks′ cells′ trail′ heights
         (record { session = record { standing = Live; top = h; marks = session .marks }; first = 0; second = before - after })
     decide-live {before} {after} done before-is after-is =
         record {
@@ -137,8 +137,8 @@ module _ {masks cells trail heights L U : List ℕ} {n k : ℕ} {session : Sessi
 
     pub decide-dead : {masks″ cells″ : List ℕ}
         → Filtered n k (CutOf assign slot v) (CutOf assign slot v) masks cells trail (session .top) masks′ cells′ trail′ (Outcomes.Dead h)
-        → Undone masks′ cells′ trail′ L U n k (session .top) h masks″ cells″
-        → Acts L U n k i (Calls.decide (decisionOf assign slot v)) session masks cells trail heights masks″ cells″ trail′ heights
+        → Undone masks′ cells′ trail′ n k (session .top) h masks″ cells″
+        → Acts n k i (Calls.decide (decisionOf assign slot v)) session masks cells trail heights masks″ cells″ trail′ heights
         (record { session = record { standing = Dead i; top = session .top; marks = session .marks }; first = 1; second = 0 })
     decide-dead done undone =
         record {

@@ -154,7 +154,7 @@ session-ready limits b calls masksRoom {A} capacity unrefused long =
       room = sessionFault-room-words limits b (length calls) (length A) masksRoom unrefused;
     }
 
-pub ready-runnable : {b calls A M : List ℕ} (cells trail L U : List ℕ) → SessionReady b calls A M → 16448 ≤ length cells → 8192 ≤ length trail
+pub ready-runnable : {b calls A M : List ℕ} (cells trail L U : List ℕ) → SessionReady b calls A M → 16448 ≤ length cells → 24832 ≤ length trail
     → 257 ≤ length L → 257 ≤ length U → length trail < 65536 → BookRunnable b calls A M cells trail L U
 ready-runnable cells trail L U session cells-in trail-in lowers-in uppers-in fits =
     record {
@@ -163,7 +163,7 @@ ready-runnable cells trail L U session cells-in trail-in lowers-in uppers-in fit
     }
 
 -- ---- Exactly
-module _ {b calls A A′ M c t h L U : List ℕ} {r : Ended} (ran : BookRan b calls mostMarks A A′ M c t h L U r) where
+module _ {b calls A A′ M c t h : List ℕ} {r : Ended} (ran : BookRan b calls mostMarks A A′ M c t h r) where
   answered : (settled : Option (List ℕ)) (answer : Answer) → (opensLive settled ≡ true → wordOf answer ≡ 0) → (opensLive settled ≡ false → wordOf answer ≡ 1)
       → wordOf answer ≡ openedWord settled
   answered none answer when-live when-dead = when-dead refl

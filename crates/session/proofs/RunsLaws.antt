@@ -54,14 +54,14 @@ overlay-more ws l i x y ws-length inside =
     ap (λ (t : List ℕ). set t (2 * i + 1) y) (one ∙ seam) ∙ two ∙ ends ∙ ap (λ (j : ℕ). (ws ++ (x ∷ y ∷ [])) ++ drop j l) (sym longer)
 
 -- ---- one call more, from the machine's state out .0 and its replies out .1
-ran-more : {R : Rules} {L U answers : List ℕ} {n k : ℕ} {session₁ : Session} {m₁ c₁ t₁ h₁ a₁ m₂ c₂ t₂ h₂ a₂ : List ℕ} {r : Stepped} (i : ℕ)
+ran-more : {R : Rules} {answers : List ℕ} {n k : ℕ} {session₁ : Session} {m₁ c₁ t₁ h₁ a₁ m₂ c₂ t₂ h₂ a₂ : List ℕ} {r : Stepped} (i : ℕ)
     (c : Call) (out : State × List Reply) (calls : List Call) (St : Model.Standing) → length calls ≡ i → length (out .1) ≡ length calls
     → 2 * i + 1 < length answers
-    → RanTo R out (standFrom St 0 calls (out .1)) m₁ c₁ t₁ h₁ L U n k session₁ answers a₁
-    → Answered R (step R (out .0) c) (stand (standingOf (session₁ .standing)) i c (step R (out .0) c .1)) m₂ c₂ t₂ h₂ L U n k r
+    → RanTo R out (standFrom St 0 calls (out .1)) m₁ c₁ t₁ h₁ n k session₁ answers a₁
+    → Answered R (step R (out .0) c) (stand (standingOf (session₁ .standing)) i c (step R (out .0) c .1)) m₂ c₂ t₂ h₂ n k r
     → a₂ ≡ set (set a₁ (2 * i) (r .first)) (2 * i + 1) (r .second)
     → RanTo R (step R (out .0) c .0, out .1 ++ (step R (out .0) c .1 ∷ []))
-    (standFrom St 0 (calls ++ (c ∷ [])) (out .1 ++ (step R (out .0) c .1 ∷ []))) m₂ c₂ t₂ h₂ L U n k (r .session) answers a₂
+    (standFrom St 0 (calls ++ (c ∷ [])) (out .1 ++ (step R (out .0) c .1 ∷ []))) m₂ c₂ t₂ h₂ n k (r .session) answers a₂
 unfolding wordsOf
 ran-more {R} {answers = answers} {r = r} i c out calls St calls-length same inside before answered written =
     let reply = step R (out .0) c .1 in
@@ -90,14 +90,14 @@ pub record Lengths (m₀ c₀ t₀ h₀ a₀ m c t h a : List ℕ) : Type 0 wher
   pub answers : length a ≡ length a₀
 
 -- ---- Runs
-module _ {L U : List ℕ} {n k : ℕ} {session : Session} {masks cells trail heights answers : List ℕ} where
-  pub runs-start : (bytes : List ℕ) → Runs L U n k (callsTo bytes 0) session masks cells trail heights answers session masks cells trail heights answers
+module _ {n k : ℕ} {session : Session} {masks cells trail heights answers : List ℕ} where
+  pub runs-start : (bytes : List ℕ) → Runs n k (callsTo bytes 0) session masks cells trail heights answers session masks cells trail heights answers
   unfolding runs listOf standFrom wordsOf
   runs-start bytes = record { does = λ R S represents. record { represents = represents; words = refl; standing = refl } }
 
   pub runs-running : {calls : List Call} {session′ : Session} {masks′ cells′ trail′ heights′ answers′ : List ℕ}
-      → Runs L U n k calls session masks cells trail heights answers session′ masks′ cells′ trail′ heights′ answers′
-      → Running masks cells trail heights L U n k session → Running masks′ cells′ trail′ heights′ L U n k session′
+      → Runs n k calls session masks cells trail heights answers session′ masks′ cells′ trail′ heights′ answers′
+      → Running masks cells trail heights n k session → Running masks′ cells′ trail′ heights′ n k session′
   runs-running {calls} so-far running =
       record {
         rules = running .rules;
@@ -107,9 +107,9 @@ module _ {L U : List ℕ} {n k : ℕ} {session : Session} {masks cells trail hei
 
   module _ (bytes : List ℕ) (i : ℕ) {c : Call} {session₁ : Session} {m₁ c₁ t₁ h₁ a₁ m₂ c₂ t₂ h₂ a₂ : List ℕ} {r : Stepped} (c-is : c ≡ callAt bytes i) where
     pub runs-more : 2 * i + 1 < length answers
-        → Runs L U n k (callsTo bytes i) session masks cells trail heights answers session₁ m₁ c₁ t₁ h₁ a₁
-        → Steps L U n k i c session₁ m₁ c₁ t₁ h₁ m₂ c₂ t₂ h₂ r → a₂ ≡ set (set a₁ (2 * i) (r .first)) (2 * i + 1) (r .second)
-        → Runs L U n k (callsTo bytes (i + 1)) session masks cells trail heights answers (r .session) m₂ c₂ t₂ h₂ a₂
+        → Runs n k (callsTo bytes i) session masks cells trail heights answers session₁ m₁ c₁ t₁ h₁ a₁
+        → Steps n k i c session₁ m₁ c₁ t₁ h₁ m₂ c₂ t₂ h₂ r → a₂ ≡ set (set a₁ (2 * i) (r .first)) (2 * i + 1) (r .second)
+        → Runs n k (callsTo bytes (i + 1)) session masks cells trail heights answers (r .session) m₂ c₂ t₂ h₂ a₂
     runs-more inside so-far stepped written =
         record {
           does = λ R S represents.

@@ -61,10 +61,10 @@ module _ (kind v slot : ℕ) where
   kind-none is = rw is refl
 
 -- ---- Acts, for a call by another name
-pub acts-at : {L U : List ℕ} {n k i : ℕ} {c d : Call} {session : Session} {m ce t h m′ ce′ t′ h′ : List ℕ} {r : Stepped} → c ≡ d
-    → Acts L U n k i d session m ce t h m′ ce′ t′ h′ r → Acts L U n k i c session m ce t h m′ ce′ t′ h′ r
-acts-at {L} {U} {n} {k} {i} {c} {d} {session} {m} {ce} {t} {h} {m′} {ce′} {t′} {h′} {r} is acts =
-    subst (λ (e : Call). Acts L U n k i e session m ce t h m′ ce′ t′ h′ r) (sym is) acts
+pub acts-at : {n k i : ℕ} {c d : Call} {session : Session} {m ce t h m′ ce′ t′ h′ : List ℕ} {r : Stepped} → c ≡ d
+    → Acts n k i d session m ce t h m′ ce′ t′ h′ r → Acts n k i c session m ce t h m′ ce′ t′ h′ r
+acts-at {n} {k} {i} {c} {d} {session} {m} {ce} {t} {h} {m′} {ce′} {t′} {h′} {r} is acts =
+    subst (λ (e : Call). Acts n k i e session m ce t h m′ ce′ t′ h′ r) (sym is) acts
 
 -- ---- what a call needs where no number refuses it
 and-true : (b : Bool) → b && true ≡ false → b ≡ false
@@ -76,19 +76,19 @@ not-dead OpenedDead is = absurd (true≢false is)
 not-dead Live is = refl
 not-dead (Dead call) is = absurd (true≢false is)
 
-module _ {masks cells trail heights L U : List ℕ} {n k : ℕ} {session : Session} where
-  none-applies : {c d : Call} → c ≡ d → (performing : Performing masks cells trail heights L U n k session c)
+module _ {masks cells trail heights : List ℕ} {n k : ℕ} {session : Session} where
+  none-applies : {c d : Call} → c ≡ d → (performing : Performing masks cells trail heights n k session c)
       → refusal (performing .running .rules) (performing .running .state) d ≡ none
   none-applies {c} {d} is performing =
       let running = performing .running in
       subst (λ (e : Call). refusal (running .rules) (running .state) e ≡ none) is
       (performing .accepted (running .rules) (running .state) (running .represents))
 
-  live-now : (running : Running masks cells trail heights L U n k session) → running .state .dead ≡ false → session .standing ≡ Live
+  live-now : (running : Running masks cells trail heights n k session) → running .state .dead ≡ false → session .standing ≡ Live
   live-now running is = not-dead (session .standing) (sym (running .represents .flag) ∙ is)
 
   pub decide-deciding : {c : Call} (assign : Bool) (slot v : ℕ) → c ≡ Calls.decide (decisionOf assign slot v)
-      → Performing masks cells trail heights L U n k session c → Deciding masks cells trail heights L U n k session slot v
+      → Performing masks cells trail heights n k session c → Deciding masks cells trail heights n k session slot v
   decide-deciding true slot v is performing =
       let running = performing .running in
       let R = running .rules in
@@ -118,7 +118,7 @@ module _ {masks cells trail heights L U : List ℕ} {n k : ℕ} {session : Sessi
         value-in = omega (arith, value-in, suits .values);
       }
 
-  pub mark-marking : {c : Call} → c ≡ Calls.mark → Performing masks cells trail heights L U n k session c → Marking heights session
+  pub mark-marking : {c : Call} → c ≡ Calls.mark → Performing masks cells trail heights n k session c → Marking heights session
   mark-marking is performing =
       let running = performing .running in
       let represents = running .represents in
@@ -133,8 +133,8 @@ module _ {masks cells trail heights L U : List ℕ} {n k : ℕ} {session : Sessi
         fits = omega (arith, live-working represents live .base .room, represents .room .heights-fit);
       }
 
-  pub back-backing : {c : Call} → c ≡ Calls.back → Performing masks cells trail heights L U n k session c
-      → Backing masks cells trail heights L U n k session
+  pub back-backing : {c : Call} → c ≡ Calls.back → Performing masks cells trail heights n k session c
+      → Backing masks cells trail heights n k session
   back-backing is performing =
       let running = performing .running in
       let S = running .state in
@@ -142,7 +142,7 @@ module _ {masks cells trail heights L U : List ℕ} {n k : ℕ} {session : Sessi
       let some : length (S .saved) ≡ 0 → ⊥ = eqb-false (length (S .saved)) 0 (no noMark) in
       record { running = running; marked = omega (arith, some, running .represents .marks-are) }
 
-  pub show-inside : {c : Call} (slot : ℕ) → c ≡ Calls.show slot → Performing masks cells trail heights L U n k session c → slot < length masks
+  pub show-inside : {c : Call} (slot : ℕ) → c ≡ Calls.show slot → Performing masks cells trail heights n k session c → slot < length masks
   show-inside slot is performing =
       let running = performing .running in
       let R = running .rules in
@@ -150,7 +150,7 @@ module _ {masks cells trail heights L U : List ℕ} {n k : ℕ} {session : Sessi
       let slot-in : slot < R .slots = leb-false (R .slots) slot (no slotOut) in
       omega (arith, slot-in, running .represents .suits .slots, running .represents .room .masks-in)
 
-  pub walls-counting : {c : Call} (lower : Bool) (v : ℕ) → c ≡ Calls.walls lower v → Performing masks cells trail heights L U n k session c
+  pub walls-counting : {c : Call} (lower : Bool) (v : ℕ) → c ≡ Calls.walls lower v → Performing masks cells trail heights n k session c
       → Counting cells n k v
   walls-counting lower v is performing =
       let running = performing .running in
@@ -165,7 +165,7 @@ module _ {masks cells trail heights L U : List ℕ} {n k : ℕ} {session : Sessi
         value-in = omega (arith, value-in, running .represents .suits .values);
       }
 
-  pub unknown-refused : {c : Call} → c ≡ Calls.unknown → Performing masks cells trail heights L U n k session c → ⊥
+  pub unknown-refused : {c : Call} → c ≡ Calls.unknown → Performing masks cells trail heights n k session c → ⊥
   unknown-refused is performing =
       let running = performing .running in
       let no = none-applies-not (running .rules) (running .state) Calls.unknown (none-applies is performing) in
@@ -190,22 +190,22 @@ number-some : (r : Option Refusal) (x : ℕ) → x ≡ refusalNumber r → (x �
 number-some none x is not-0 = absurd (not-0 is)
 number-some (some r) x is not-0 = record { is = r; some-is = refl; number-is = sym is }
 
-module _ {L U : List ℕ} {n k : ℕ} (i : ℕ) {c : Call} {session : Session} {masks cells trail heights : List ℕ} (marks x : ℕ) (dead : Bool)
+module _ {n k : ℕ} (i : ℕ) {c : Call} {session : Session} {masks cells trail heights : List ℕ} (marks x : ℕ) (dead : Bool)
     (marks-is : session .marks ≡ marks) (dead-is : dead ≡ isDead (session .standing)) (refuses : Refuses n k (length heights) marks dead c x) where
-  number-said : (R : Rules) (S : State) → Represents R S masks cells trail heights L U n k session → x ≡ refusalNumber (refusal R S c)
+  number-said : (R : Rules) (S : State) → Represents R S masks cells trail heights n k session → x ≡ refusalNumber (refusal R S c)
   number-said R S represents =
       let suits = represents .suits in
       refuses .says R S (suits .slots) (suits .values) (suits .limit) (represents .flag ∙ sym dead-is) (represents .marks-are ∙ marks-is)
 
-  pub steps-performing : Running masks cells trail heights L U n k session → x ≡ 0 → Performing masks cells trail heights L U n k session c
+  pub steps-performing : Running masks cells trail heights n k session → x ≡ 0 → Performing masks cells trail heights n k session c
   steps-performing running is =
       record {
         running = running;
         accepted = λ R S represents. number-none (refusal R S c) (sym (number-said R S represents) ∙ is);
       }
 
-  refused-answered : {R : Rules} {S : State} → Represents R S masks cells trail heights L U n k session → (x ≡ 0 → ⊥)
-      → Answered R (step R S c) (stand (standingOf (session .standing)) i c (step R S c .1)) masks cells trail heights L U n k
+  refused-answered : {R : Rules} {S : State} → Represents R S masks cells trail heights n k session → (x ≡ 0 → ⊥)
+      → Answered R (step R S c) (stand (standingOf (session .standing)) i c (step R S c .1)) masks cells trail heights n k
       (record { session = session; first = 256 + x; second = 0 })
   unfolding stand
   refused-answered {R} {S} represents not-0 =
@@ -213,12 +213,12 @@ module _ {L U : List ℕ} {n k : ℕ} (i : ℕ) {c : Call} {session : Session} {
       rw (step-refused R S c (numbered .is) (numbered .some-is))
       (record { represents = represents; first = ap (λ (y : ℕ). 256 + y) (sym (numbered .number-is)); second = refl; standing = refl })
 
-  pub steps-refused : (x ≡ 0 → ⊥) → Steps L U n k i c session masks cells trail heights masks cells trail heights
+  pub steps-refused : (x ≡ 0 → ⊥) → Steps n k i c session masks cells trail heights masks cells trail heights
       (record { session = session; first = 256 + x; second = 0 })
   steps-refused not-0 = record { does = λ R S represents. refused-answered represents not-0 }
 
-  pub steps-done : {m′ ce′ t′ h′ : List ℕ} {r : Stepped} → x ≡ 0 → Acts L U n k i c session masks cells trail heights m′ ce′ t′ h′ r
-      → Steps L U n k i c session masks cells trail heights m′ ce′ t′ h′ r
+  pub steps-done : {m′ ce′ t′ h′ : List ℕ} {r : Stepped} → x ≡ 0 → Acts n k i c session masks cells trail heights m′ ce′ t′ h′ r
+      → Steps n k i c session masks cells trail heights m′ ce′ t′ h′ r
   steps-done {m′} {ce′} {t′} {h′} {r} is acts =
       record {
         does = λ R S represents.

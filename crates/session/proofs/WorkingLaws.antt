@@ -1,7 +1,7 @@
 -- The laws of `Working` and `Represents` of `specs/Represents.antt`: what the filter and the undoing need (`working-world`, `undoable-dead`), and
 -- what a call leaves: a decision that lives (`working-live`), one that dies and is taken back (`working-dead`). No contract cites this file.
 -- Assumes nothing.
-use mathlib.Core.Path.{_≡_, ap, _∙_, subst}
+use mathlib.Core.Path.{_≡_, _∙_, subst}
 use mathlib.Core.List.{List}
 use Prim.Native.Nat.{ℕ}
 use native.Mathlib.Omega.{arith}
@@ -12,7 +12,7 @@ use Rattle.filter_model.proofs.StateLaws.{world-moved}
 use Rattle.filter.specs.Filtered.{Filtered}
 use Rattle.filter.specs.declared.Outcome.the-variants.{Live, Dead}
 use Rattle.undoing.specs.Undone.{Undoable, Undone}
-use Rattle.undoing.proofs.UndoneLaws.{moved-backable, moved-undone}
+use Rattle.undoing.proofs.UndoneLaws.{moved-undoable, moved-undone}
 use Rattle.session_model.specs.State.{Rules, State}
 use Rattle.session.specs.Represents.{Room, Working, StandsFor, Represents}
 use Rattle.session.specs.declared.Session.{Session}
@@ -20,8 +20,8 @@ use Rattle.session.specs.declared.Standing.{Standing}
 use Rattle.session.specs.declared.Standing.the-variants as Standings
 use Rattle.session.proofs.PileLaws.{base-entries, pile-moved, pile-trail}
 
-module _ {R : Rules} {saved : List (List ℕ)} {masks cells trail heights L U : List ℕ} {n k top : ℕ} (room : Room masks cells trail L U n k)
-    (working : Working R saved masks cells trail heights L U n k top) where
+module _ {R : Rules} {saved : List (List ℕ)} {masks cells trail heights : List ℕ} {n k top : ℕ} (room : Room masks cells trail n k)
+    (working : Working R saved masks cells trail heights n k top) where
   pub working-world : World masks cells trail n k top
   working-world =
       record {
@@ -34,14 +34,12 @@ module _ {R : Rules} {saved : List (List ℕ)} {masks cells trail heights L U : 
         alive = working .base .stable .alive;
       }
 
-  pub room-moved : {masks′ cells′ trail′ : List ℕ} {h : ℕ} → Moved masks cells trail top masks′ cells′ trail′ h
-      → Room masks′ cells′ trail′ L U n k
+  pub room-moved : {masks′ cells′ trail′ : List ℕ} {h : ℕ} → Moved n k masks cells trail top masks′ cells′ trail′ h
+      → Room masks′ cells′ trail′ n k
   room-moved moved =
       record {
         masks-in = moved .within .len ∙ room .masks-in;
         rows = omega (arith, moved .cells-size, room .rows);
-        lowers-in = room .lowers-in;
-        uppers-in = room .uppers-in;
         slots-fit = room .slots-fit;
         values-fit = room .values-fit;
         heights-fit = omega (arith, moved .trailed .size, room .heights-fit);
@@ -49,14 +47,13 @@ module _ {R : Rules} {saved : List (List ℕ)} {masks cells trail heights L U : 
 
   -- a decision that lives
   pub working-live : {Q : List ℕ → Type 0} {masks′ cells′ trail′ : List ℕ} {h : ℕ} → Filtered n k Q Q masks cells trail top masks′ cells′ trail′ (Live h)
-      → Working R saved masks′ cells′ trail′ heights L U n k h
+      → Working R saved masks′ cells′ trail′ heights n k h
   working-live {masks′ = masks′} {cells′} {trail′} {h} done =
       let T = working .table in
       let world = world-moved working-world (done .moved) in
       record {
         table = T;
         rules = working .rules;
-        rises = working .rises;
         mirror = done .mirror T (working .mirror);
         base =
             record {
@@ -72,59 +69,46 @@ module _ {R : Rules} {saved : List (List ℕ)} {masks cells trail heights L U : 
 
   -- a decision that dies may be taken back
   pub undoable-dead : {Q : List ℕ → Type 0} {masks′ cells′ trail′ : List ℕ} {h : ℕ}
-      → Filtered n k Q Q masks cells trail top masks′ cells′ trail′ (Dead h) → Undoable masks′ cells′ trail′ L U n k top h
-  undoable-dead done =
-      let after = room-moved (done .moved) in
-      record {
-        backable = moved-backable (done .moved) working-world;
-        alive = done .moved .alive (working .base .stable .alive);
-        building =
-            record {
-              slots-fit = omega (arith, after .slots-fit);
-              values-fit = after .values-fit;
-              rises-in = after .lowers-in;
-              slots = omega (arith, after .masks-in);
-              rows = after .rows;
-            };
-        uppers-in = after .uppers-in;
-      }
+      → Filtered n k Q Q masks cells trail top masks′ cells′ trail′ (Dead h) → Undoable masks′ cells′ trail′ n k top h
+  undoable-dead done = moved-undoable (done .moved) working-world
 
   module _ {Q : List ℕ → Type 0} {masks′ cells′ trail′ masks″ cells″ : List ℕ} {h : ℕ}
       (done : Filtered n k Q Q masks cells trail top masks′ cells′ trail′ (Dead h))
-      (undone : Undone masks′ cells′ trail′ L U n k top h masks″ cells″) where
+      (undone : Undone masks′ cells′ trail′ n k top h masks″ cells″) where
     pub masks-back : masks″ ≡ masks
-    masks-back = moved-undone (done .moved) undone
+    masks-back = moved-undone (done .moved) undone .0
+
+    cells-back : cells″ ≡ cells
+    cells-back = moved-undone (done .moved) undone .1
 
     -- .. and is as before
-    pub working-dead : Working R saved masks″ cells″ trail′ heights L U n k top
+    pub working-dead : Working R saved masks″ cells″ trail′ heights n k top
     working-dead =
         let T = working .table in
-        rw masks-back
+        let trailed = done .moved .trailed in
+        rw (masks-back, cells-back)
         (record {
           table = T;
           rules = working .rules;
-          rises = working .rises;
-          mirror = rw masks-back at (undone .mirror T (working .rises) (done .mirror T (working .mirror)));
-          base = base-entries (done .moved .trailed .size) (working .base);
-          pile = pile-trail n k T trail trail′ heights (done .moved .trailed .size) masks top saved (done .moved .trailed .below) (working .pile);
+          mirror = working .mirror;
+          base = base-entries (trailed .size) (working .base);
+          pile = pile-trail n k T trail trail′ heights (trailed .size) masks cells top saved (trailed .kept) (working .pile);
         })
 
-    pub room-dead : Room masks″ cells″ trail′ L U n k
+    pub room-dead : Room masks″ cells″ trail′ n k
     room-dead =
-        let after = room-moved (done .moved) in
-        record {
-          masks-in = ap length masks-back ∙ room .masks-in;
-          rows = omega (arith, undone .cells-size, after .rows);
-          lowers-in = room .lowers-in;
-          uppers-in = room .uppers-in;
+        rw (masks-back, cells-back)
+        (record {
+          masks-in = room .masks-in;
+          rows = room .rows;
           slots-fit = room .slots-fit;
           values-fit = room .values-fit;
-          heights-fit = after .heights-fit;
-        }
+          heights-fit = omega (arith, done .moved .trailed .size, room .heights-fit);
+        })
 
 -- ---- Represents
-module _ {R : Rules} {S : State} {masks cells trail heights L U : List ℕ} {n k : ℕ} {session : Session}
-    (represents : Represents R S masks cells trail heights L U n k session) where
-  pub live-working : session .standing ≡ Standings.Live → Working R (S .saved) masks cells trail heights L U n k (session .top)
+module _ {R : Rules} {S : State} {masks cells trail heights : List ℕ} {n k : ℕ} {session : Session}
+    (represents : Represents R S masks cells trail heights n k session) where
+  pub live-working : session .standing ≡ Standings.Live → Working R (S .saved) masks cells trail heights n k (session .top)
   live-working live =
-      subst (λ (standing : Standing). StandsFor standing R (S .saved) masks cells trail heights L U n k (session .top)) live (represents .stands)
+      subst (λ (standing : Standing). StandsFor standing R (S .saved) masks cells trail heights n k (session .top)) live (represents .stands)

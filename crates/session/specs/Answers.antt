@@ -23,25 +23,25 @@ use Rattle.session.specs.declared.Session.{Session}
 use Rattle.session.specs.declared.Standing.the-variants.{Live}
 use Rattle.session.specs.declared.Stepped.{Stepped}
 
-pub record Answered (R : Rules) (out : State × Reply) (St : Model.Standing) (masks cells trail heights L U : List ℕ) (n k : ℕ) (r : Stepped)
+pub record Answered (R : Rules) (out : State × Reply) (St : Model.Standing) (masks cells trail heights : List ℕ) (n k : ℕ) (r : Stepped)
     : Type 0 where
-  pub represents : Represents R (out .0) masks cells trail heights L U n k (r .session)
+  pub represents : Represents R (out .0) masks cells trail heights n k (r .session)
   pub first : r .first ≡ words (out .1) .0
   pub second : r .second ≡ words (out .1) .1
   pub standing : standingOf (r .session .standing) ≡ St
 
-pub record Acts (L U : List ℕ) (n k i : ℕ) (c : Calls.Call) (session : Session) (masks cells trail heights masks′ cells′ trail′ heights′ : List ℕ)
+pub record Acts (n k i : ℕ) (c : Calls.Call) (session : Session) (masks cells trail heights masks′ cells′ trail′ heights′ : List ℕ)
     (r : Stepped) : Type 0 where
-  pub does : (R : Rules) (S : State) → Represents R S masks cells trail heights L U n k session
-      → Answered R (act R S c) (Model.stand (standingOf (session .standing)) i c (act R S c .1)) masks′ cells′ trail′ heights′ L U n k r
+  pub does : (R : Rules) (S : State) → Represents R S masks cells trail heights n k session
+      → Answered R (act R S c) (Model.stand (standingOf (session .standing)) i c (act R S c .1)) masks′ cells′ trail′ heights′ n k r
 
-pub record Steps (L U : List ℕ) (n k i : ℕ) (c : Calls.Call) (session : Session) (masks cells trail heights masks′ cells′ trail′ heights′ : List ℕ)
+pub record Steps (n k i : ℕ) (c : Calls.Call) (session : Session) (masks cells trail heights masks′ cells′ trail′ heights′ : List ℕ)
     (r : Stepped) : Type 0 where
-  pub does : (R : Rules) (S : State) → Represents R S masks cells trail heights L U n k session
-      → Answered R (step R S c) (Model.stand (standingOf (session .standing)) i c (step R S c .1)) masks′ cells′ trail′ heights′ L U n k r
+  pub does : (R : Rules) (S : State) → Represents R S masks cells trail heights n k session
+      → Answered R (step R S c) (Model.stand (standingOf (session .standing)) i c (step R S c .1)) masks′ cells′ trail′ heights′ n k r
 
-pub record Deciding (masks cells trail heights L U : List ℕ) (n k : ℕ) (session : Session) (slot v : ℕ) : Type 0 where
-  pub running : Running masks cells trail heights L U n k session
+pub record Deciding (masks cells trail heights : List ℕ) (n k : ℕ) (session : Session) (slot v : ℕ) : Type 0 where
+  pub running : Running masks cells trail heights n k session
   pub live : session .standing ≡ Live
   pub slot-in : slot < n
   pub value-in : v < k
@@ -51,20 +51,20 @@ pub record Marking (heights : List ℕ) (session : Session) : Type 0 where
   pub free : session .marks < length heights
   pub fits : session .top < 65536
 
-pub record Backing (masks cells trail heights L U : List ℕ) (n k : ℕ) (session : Session) : Type 0 where
-  pub running : Running masks cells trail heights L U n k session
+pub record Backing (masks cells trail heights : List ℕ) (n k : ℕ) (session : Session) : Type 0 where
+  pub running : Running masks cells trail heights n k session
   pub marked : 0 < session .marks
 
 pub record Counting (cells : List ℕ) (n k v : ℕ) : Type 0 where
   pub rows : (k + k) * (n + 1) ≤ length cells
-  pub slots-fit : n ≤ 2048
+  pub slots-fit : n ≤ 256
   pub values-fit : k ≤ 32
   pub value-in : v < k
 
 -- ---- any call
-pub record Performing (masks cells trail heights L U : List ℕ) (n k : ℕ) (session : Session) (c : Calls.Call) : Type 0 where
-  pub running : Running masks cells trail heights L U n k session
-  pub accepted : (R : Rules) (S : State) → Represents R S masks cells trail heights L U n k session → refusal R S c ≡ none
+pub record Performing (masks cells trail heights : List ℕ) (n k : ℕ) (session : Session) (c : Calls.Call) : Type 0 where
+  pub running : Running masks cells trail heights n k session
+  pub accepted : (R : Rules) (S : State) → Represents R S masks cells trail heights n k session → refusal R S c ≡ none
 
 -- ---- refusals
 pub record Refuses (n k limit marks : ℕ) (dead : Bool) (c : Calls.Call) (r : ℕ) : Type 0 where

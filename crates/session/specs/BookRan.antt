@@ -43,8 +43,8 @@ pub record Openable (b masks cells trail L U : List ℕ) : Type 0 where
   pub state : StateRoom b masks cells trail L U
   pub heights-fit : length trail < 65536
 
-pub record Opens (b masks cells trail L U : List ℕ) (r : Session) : Type 0 where
-  pub represents : (heights : List ℕ) → Represents (openedRules b (length heights)) (openedState b (length heights)) masks cells trail heights L U
+pub record Opens (b masks cells trail : List ℕ) (r : Session) : Type 0 where
+  pub represents : (heights : List ℕ) → Represents (openedRules b (length heights)) (openedState b (length heights)) masks cells trail heights
       (Layout.slots b) (Layout.values b) r
   pub standing : standingOf (r .standing) ≡ opening (settledBook b)
 
@@ -53,9 +53,9 @@ pub record BookRunnable (b calls answers masks cells trail L U : List ℕ) : Typ
   -- two words a call
   pub room : 2 * (length calls / 4) ≤ length answers
 
-pub record BookRan (b calls : List ℕ) (limit : ℕ) (answers answers′ masks cells trail heights L U : List ℕ) (r : Ended) : Type 0 where
+pub record BookRan (b calls : List ℕ) (limit : ℕ) (answers answers′ masks cells trail heights : List ℕ) (r : Ended) : Type 0 where
   pub live : r .live ≡ opensLive (settledBook b)
-  pub represents : Represents (openedRules b limit) (stateAfter b limit (callsOf calls)) masks cells trail heights L U (Layout.slots b) (Layout.values b)
+  pub represents : Represents (openedRules b limit) (stateAfter b limit (callsOf calls)) masks cells trail heights (Layout.slots b) (Layout.values b)
       (r .session)
   pub words : answers′ ≡ overlay (wordsOf (repliesOf b limit (callsOf calls))) answers
   pub standing : standingOf (r .session .standing) ≡ standingAfter b limit (callsOf calls)

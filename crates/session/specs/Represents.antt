@@ -3,7 +3,7 @@
 --   Suits         the rules' sizes are those of the slices
 --   Governs       the rules settle and count walls by the closed table T
 --   Base          a stable list M at the trail's height h, with room on the trail for every value that is left
---   Entry         the trail from the height g on, put back into M, gives M′
+--   Entry         the strikes from the height g on, taken back from M and its cells, lead to M′ and the cells that mirrored it
 --   Pile          each saved list of the machine, the latest first, is an Entry; heights holds the trail's height at each
 --   Working       a session that opened live: the cells mirror T and the masks, the masks are stable, and the saved lists are a Pile
 --   Shut          a session that opened dead: nothing is saved, and no wall stands
@@ -21,7 +21,6 @@ use Rattle.settling_model.specs.Settled.{LacksAt}
 use Rattle.settling_model.specs.Settling.{settling}
 use Rattle.settling_model.specs.Stable.{Stable, tableBounds}
 use Rattle.filter_model.specs.Mirror.{Mirror}
-use Rattle.filter_model.specs.Rises.{TableRises}
 use Rattle.filter_model.specs.Trail.{Restores}
 use Rattle.session_model.specs.State.{Rules, State}
 use Rattle.session_model.specs.Walls.{wallCount}
@@ -30,13 +29,11 @@ use Rattle.session.specs.declared.Session.{Session}
 use Rattle.session.specs.declared.Standing.{Standing}
 use Rattle.session.specs.declared.Standing.the-variants.{OpenedDead, Live, Dead}
 
-pub record Room (masks cells trail L U : List ℕ) (n k : ℕ) : Type 0 where
+pub record Room (masks cells trail : List ℕ) (n k : ℕ) : Type 0 where
   pub masks-in : length masks ≡ n
   pub rows : (k + k) * (n + 1) ≤ length cells
-  pub lowers-in : n < length L
-  pub uppers-in : n < length U
-  -- an entry of the trail and a height fit their 16 bits, and a value the mask
-  pub slots-fit : n ≤ 2048
+  -- a slot fits a byte of the trail, a value the mask, and a height 16 bits
+  pub slots-fit : n ≤ 256
   pub values-fit : k ≤ 32
   pub heights-fit : length trail < 65536
 
@@ -51,49 +48,50 @@ pub record Governs (R : Rules) (n k : ℕ) (T : Table) : Type 0 where
   pub settle : (M : List ℕ) → R .settle M ≡ settling (tableBounds n k T) M
   pub standing : (kind : Bool) (M : List ℕ) (v : ℕ) → R .standing kind M v ≡ wallCount kind n T M v
 
-pub record Base (n k : ℕ) (T : Table) (entries : ℕ) (M : List ℕ) (h : ℕ) : Type 0 where
+pub record Base (n k : ℕ) (T : Table) (bytes : ℕ) (M : List ℕ) (h : ℕ) : Type 0 where
   pub size : length M ≡ n
   pub stable : Stable (tableBounds n k T) M
   pub values : (s w : ℕ) → k ≤ w → LacksAt M s w
-  pub room : h + total M ≤ entries
+  pub room : n + 3 * (h + total M) ≤ bytes
 
-pub record Entry (n k : ℕ) (T : Table) (trail M : List ℕ) (h : ℕ) (M′ : List ℕ) (g : ℕ) : Type 0 where
+pub record Entry (n k : ℕ) (T : Table) (trail M cells : List ℕ) (h : ℕ) (M′ cells′ : List ℕ) (g : ℕ) : Type 0 where
   pub order : g ≤ h
-  pub back : Restores trail g (h - g) M M′
+  pub back : Restores n k trail g (h - g) M cells M′ cells′
+  pub mirror : Mirror n k T M′ cells′
   pub base : Base n k T (length trail) M′ g
 
-unfoldable pub Pile : ℕ → ℕ → Table → List ℕ → List ℕ → List ℕ → ℕ → List (List ℕ) → Type 0
-Pile n k T trail heights M h [] = Unit {0}
-Pile n k T trail heights M h (M′ ∷ saved) =
-    Entry n k T trail M h M′ (getD heights (length saved) 0) × Pile n k T trail heights M′ (getD heights (length saved) 0) saved
+unfoldable pub Pile : ℕ → ℕ → Table → List ℕ → List ℕ → List ℕ → List ℕ → ℕ → List (List ℕ) → Type 0
+Pile n k T trail heights M cells h [] = Unit {0}
+Pile n k T trail heights M cells h (M′ ∷ saved) =
+    (cells′ : List ℕ) × Entry n k T trail M cells h M′ cells′ (getD heights (length saved) 0)
+    × Pile n k T trail heights M′ cells′ (getD heights (length saved) 0) saved
 
-pub record Working (R : Rules) (saved : List (List ℕ)) (masks cells trail heights L U : List ℕ) (n k top : ℕ) : Type 0 where
+pub record Working (R : Rules) (saved : List (List ℕ)) (masks cells trail heights : List ℕ) (n k top : ℕ) : Type 0 where
   pub table : Table
   pub rules : Governs R n k table
-  pub rises : TableRises n k table L U
   pub mirror : Mirror n k table masks cells
   pub base : Base n k table (length trail) masks top
-  pub pile : Pile n k table trail heights masks top saved
+  pub pile : Pile n k table trail heights masks cells top saved
 
 pub record Shut (R : Rules) (saved : List (List ℕ)) : Type 0 where
   pub saved-none : saved ≡ []
   pub standing : (kind : Bool) (M : List ℕ) (v : ℕ) → R .standing kind M v ≡ 0
 
-abbrev pub StandsFor : Standing → Rules → List (List ℕ) → List ℕ → List ℕ → List ℕ → List ℕ → List ℕ → List ℕ → ℕ → ℕ → ℕ → Type 0
-StandsFor OpenedDead R saved masks cells trail heights L U n k top = Shut R saved
-StandsFor Live R saved masks cells trail heights L U n k top = Working R saved masks cells trail heights L U n k top
-StandsFor (Dead call) R saved masks cells trail heights L U n k top = Working R saved masks cells trail heights L U n k top
+abbrev pub StandsFor : Standing → Rules → List (List ℕ) → List ℕ → List ℕ → List ℕ → List ℕ → ℕ → ℕ → ℕ → Type 0
+StandsFor OpenedDead R saved masks cells trail heights n k top = Shut R saved
+StandsFor Live R saved masks cells trail heights n k top = Working R saved masks cells trail heights n k top
+StandsFor (Dead call) R saved masks cells trail heights n k top = Working R saved masks cells trail heights n k top
 
-pub record Represents (R : Rules) (S : State) (masks cells trail heights L U : List ℕ) (n k : ℕ) (session : Session) : Type 0 where
-  pub room : Room masks cells trail L U n k
+pub record Represents (R : Rules) (S : State) (masks cells trail heights : List ℕ) (n k : ℕ) (session : Session) : Type 0 where
+  pub room : Room masks cells trail n k
   pub suits : Suits R n k (length heights)
   pub masks-are : S .masks ≡ masks
   pub flag : S .dead ≡ isDead (session .standing)
   pub marks-are : length (S .saved) ≡ session .marks
   pub marks-in : session .marks ≤ length heights
-  pub stands : StandsFor (session .standing) R (S .saved) masks cells trail heights L U n k (session .top)
+  pub stands : StandsFor (session .standing) R (S .saved) masks cells trail heights n k (session .top)
 
-pub record Running (masks cells trail heights L U : List ℕ) (n k : ℕ) (session : Session) : Type 0 where
+pub record Running (masks cells trail heights : List ℕ) (n k : ℕ) (session : Session) : Type 0 where
   pub rules : Rules
   pub state : State
-  pub represents : Represents rules state masks cells trail heights L U n k session
+  pub represents : Represents rules state masks cells trail heights n k session

@@ -16,19 +16,19 @@ use Rattle.session.specs.Given.{standingOf}
 use Rattle.session.specs.Represents.{Represents, Running}
 use Rattle.session.specs.declared.Session.{Session}
 
-pub record RanTo (R : Rules) (out : State × List Reply) (St : Model.Standing) (masks cells trail heights L U : List ℕ) (n k : ℕ)
+pub record RanTo (R : Rules) (out : State × List Reply) (St : Model.Standing) (masks cells trail heights : List ℕ) (n k : ℕ)
     (session : Session) (answers answers′ : List ℕ) : Type 0 where
-  pub represents : Represents R (out .0) masks cells trail heights L U n k session
+  pub represents : Represents R (out .0) masks cells trail heights n k session
   pub words : answers′ ≡ overlay (wordsOf (out .1)) answers
   pub standing : standingOf (session .standing) ≡ St
 
-pub record Runs (L U : List ℕ) (n k : ℕ) (calls : List Call) (session : Session) (masks cells trail heights answers : List ℕ) (session′ : Session)
+pub record Runs (n k : ℕ) (calls : List Call) (session : Session) (masks cells trail heights answers : List ℕ) (session′ : Session)
     (masks′ cells′ trail′ heights′ answers′ : List ℕ) : Type 0 where
-  pub does : (R : Rules) (S : State) → Represents R S masks cells trail heights L U n k session
-      → RanTo R (runs R S calls) (Model.standFrom (standingOf (session .standing)) 0 calls (runs R S calls .1)) masks′ cells′ trail′ heights′ L U n k
+  pub does : (R : Rules) (S : State) → Represents R S masks cells trail heights n k session
+      → RanTo R (runs R S calls) (Model.standFrom (standingOf (session .standing)) 0 calls (runs R S calls .1)) masks′ cells′ trail′ heights′ n k
       session′ answers answers′
 
-pub record Runnable (calls answers masks cells trail heights L U : List ℕ) (n k : ℕ) (session : Session) : Type 0 where
-  pub running : Running masks cells trail heights L U n k session
+pub record Runnable (calls answers masks cells trail heights : List ℕ) (n k : ℕ) (session : Session) : Type 0 where
+  pub running : Running masks cells trail heights n k session
   -- two words a call
   pub room : 2 * (length calls / 4) ≤ length answers

@@ -23,10 +23,8 @@ ghost use Rattle.session.specs.Answers.{Acts, Deciding, Marking, Backing
 pub fn decide(
     masks: &mut [u32],
     cells: &mut [u16],
-    trail: &mut [u16],
+    trail: &mut [u8],
     heights: &[u16],
-    lowers: &[u32],
-    uppers: &[u32],
     n: usize,
     k: u32,
     session: Session,
@@ -35,8 +33,8 @@ pub fn decide(
     slot: usize,
     v: u32,
 ) -> Stepped
-    requires { ⌜ Deciding (now masks) (now cells) (now trail) (now heights) (now lowers) (now uppers) n k session slot v ⌝ }
-    ensures { λ r. ⌜ Acts (now (lowers .entry)) (now (uppers .entry)) n k i (Calls.decide (decisionOf assign slot v)) session
+    requires { ⌜ Deciding (now masks) (now cells) (now trail) (now heights) n k session slot v ⌝ }
+    ensures { λ r. ⌜ Acts n k i (Calls.decide (decisionOf assign slot v)) session
         (now (masks .entry)) (now (cells .entry)) (now (trail .entry)) (now (heights .entry))
         (now (masks .exit)) (now (cells .exit)) (now (trail .exit)) (now (heights .entry)) r ⌝ }
 {
@@ -59,7 +57,7 @@ pub fn decide(
             };
         }
         Outcome::Dead(h) => {
-            undo(masks, cells, trail, lowers, uppers, n, k, top, h);
+            undo(masks, cells, trail, n, k, top, h);
             let dead = Session {
                 standing: Standing::Dead(i),
                 top,
@@ -77,7 +75,7 @@ pub fn decide(
 // A mark: the trail's height is noted.
 pub fn mark(heights: &mut [u16], session: Session) -> Stepped
     requires { ⌜ Marking (now heights) session ⌝ }
-    ensures { λ r. ⌜ ((masks cells trail L U : List ℕ) (n k i : ℕ) → Acts L U n k i Calls.mark session
+    ensures { λ r. ⌜ ((masks cells trail : List ℕ) (n k i : ℕ) → Acts n k i Calls.mark session
         masks cells trail (now (heights .entry)) masks cells trail (now (heights .exit)) r) ⌝ }
 {
     let top = session.top;
@@ -99,23 +97,21 @@ pub fn mark(heights: &mut [u16], session: Session) -> Stepped
 pub fn back(
     masks: &mut [u32],
     cells: &mut [u16],
-    trail: &[u16],
+    trail: &[u8],
     heights: &[u16],
-    lowers: &[u32],
-    uppers: &[u32],
     n: usize,
     k: u32,
     session: Session,
 ) -> Stepped
-    requires { ⌜ Backing (now masks) (now cells) (now trail) (now heights) (now lowers) (now uppers) n k session ⌝ }
-    ensures { λ r. ⌜ ((i : ℕ) → Acts (now (lowers .entry)) (now (uppers .entry)) n k i Calls.back session
+    requires { ⌜ Backing (now masks) (now cells) (now trail) (now heights) n k session ⌝ }
+    ensures { λ r. ⌜ ((i : ℕ) → Acts n k i Calls.back session
         (now (masks .entry)) (now (cells .entry)) (now (trail .entry)) (now (heights .entry))
         (now (masks .exit)) (now (cells .exit)) (now (trail .entry)) (now (heights .entry)) r) ⌝ }
 {
     let top = session.top;
     let marks = session.marks - 1;
     let from = height(heights, marks);
-    undo(masks, cells, trail, lowers, uppers, n, k, from, top);
+    undo(masks, cells, trail, n, k, from, top);
     let live = Session {
         standing: Standing::Live,
         top: from,
@@ -131,7 +127,7 @@ pub fn back(
 // A show: the slot's mask.
 pub fn show(masks: &[u32], session: Session, slot: usize) -> Stepped
     requires { ⌜ slot < length (now masks) ⌝ }
-    ensures { λ r. ⌜ ((cells trail heights L U : List ℕ) (n k i : ℕ) → Acts L U n k i (Calls.show slot) session
+    ensures { λ r. ⌜ ((cells trail heights : List ℕ) (n k i : ℕ) → Acts n k i (Calls.show slot) session
         (now (masks .entry)) cells trail heights (now (masks .entry)) cells trail heights r) ⌝ }
 {
     Stepped {
@@ -144,7 +140,7 @@ pub fn show(masks: &[u32], session: Session, slot: usize) -> Stepped
 // A count of walls, of the lower or the upper bound of v; after a dead opening there are none.
 pub fn walls(cells: &[u16], n: usize, k: u32, session: Session, lower: bool, v: u32) -> Stepped
     requires { ⌜ Counting (now cells) n k v ⌝ }
-    ensures { λ r. ⌜ ((masks trail heights L U : List ℕ) (i : ℕ) → Acts L U n k i (Calls.walls lower v) session
+    ensures { λ r. ⌜ ((masks trail heights : List ℕ) (i : ℕ) → Acts n k i (Calls.walls lower v) session
         masks (now (cells .entry)) trail heights masks (now (cells .entry)) trail heights r) ⌝ }
 {
     let standing = session.standing;
@@ -177,7 +173,7 @@ pub fn is_shut(standing: Standing) -> bool
 
 // Where the cells of a bound of v start.
 fn row_start(n: usize, k: u32, lower: bool, v: u32) -> usize
-    requires { ⌜ (n ≤ 2048) × (k ≤ 32) × (v < k) ⌝ }
+    requires { ⌜ (n ≤ 256) × (k ≤ 32) × (v < k) ⌝ }
     ensures { λ r. ⌜ r ≡ row lower k v * (n + 1) ⌝ }
 {
     if lower {
@@ -197,7 +193,7 @@ fn height(heights: &[u16], at: usize) -> usize
 fn cut_slot(
     masks: &mut [u32],
     cells: &mut [u16],
-    trail: &mut [u16],
+    trail: &mut [u8],
     n: usize,
     k: u32,
     top: usize,
@@ -217,7 +213,7 @@ fn cut_slot(
 
 // How many values all masks have together.
 fn ones(masks: &[u32]) -> u32
-    requires { ⌜ length (now masks) ≤ 2048 ⌝ }
+    requires { ⌜ length (now masks) ≤ 256 ⌝ }
     ensures { λ r. ⌜ r ≡ total (now (masks .entry)) ⌝ }
 {
     let mut count: u32 = 0;

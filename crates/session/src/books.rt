@@ -19,14 +19,14 @@ pub fn run_book(
     answers: &mut [u32],
     masks: &mut [u32],
     cells: &mut [u16],
-    trail: &mut [u16],
+    trail: &mut [u8],
     heights: &mut [u16],
     lowers: &mut [u32],
     uppers: &mut [u32],
 ) -> Ended
     requires { ⌜ BookRunnable (now book) (now calls) (now answers) (now masks) (now cells) (now trail) (now lowers) (now uppers) ⌝ }
     ensures { λ r. ⌜ BookRan (now (book .entry)) (now (calls .entry)) (length (now (heights .entry))) (now (answers .entry)) (now (answers .exit))
-        (now (masks .exit)) (now (cells .exit)) (now (trail .exit)) (now (heights .exit)) (now (lowers .exit)) (now (uppers .exit)) r ⌝ }
+        (now (masks .exit)) (now (cells .exit)) (now (trail .exit)) (now (heights .exit)) r ⌝ }
 {
     let fresh = open_session(book, masks, cells, trail, lowers, uppers);
     let standing = fresh.standing;
@@ -40,8 +40,6 @@ pub fn run_book(
         cells,
         trail,
         heights,
-        lowers,
-        uppers,
         n,
         k,
         fresh,
@@ -54,12 +52,12 @@ fn open_session(
     book: &[u8],
     masks: &mut [u32],
     cells: &mut [u16],
-    trail: &mut [u16],
+    trail: &mut [u8],
     lowers: &mut [u32],
     uppers: &mut [u32],
 ) -> Session
     requires { ⌜ Openable (now book) (now masks) (now cells) (now trail) (now lowers) (now uppers) ⌝ }
-    ensures { λ r. ⌜ Opens (now (book .entry)) (now (masks .exit)) (now (cells .exit)) (now (trail .exit)) (now (lowers .exit)) (now (uppers .exit)) r ⌝ }
+    ensures { λ r. ⌜ Opens (now (book .entry)) (now (masks .exit)) (now (cells .exit)) (now (trail .exit)) r ⌝ }
 {
     let outcome = open_book(book, masks, cells, trail, lowers, uppers);
     match outcome {

@@ -26,16 +26,14 @@ pub fn run(
     answers: &mut [u32],
     masks: &mut [u32],
     cells: &mut [u16],
-    trail: &mut [u16],
+    trail: &mut [u8],
     heights: &mut [u16],
-    lowers: &[u32],
-    uppers: &[u32],
     n: usize,
     k: u32,
     session: Session,
 ) -> Session
-    requires { ⌜ Runnable (now calls) (now answers) (now masks) (now cells) (now trail) (now heights) (now lowers) (now uppers) n k session ⌝ }
-    ensures { λ r. ⌜ Runs (now (lowers .entry)) (now (uppers .entry)) n k (callsOf (now (calls .entry))) session
+    requires { ⌜ Runnable (now calls) (now answers) (now masks) (now cells) (now trail) (now heights) n k session ⌝ }
+    ensures { λ r. ⌜ Runs n k (callsOf (now (calls .entry))) session
         (now (masks .entry)) (now (cells .entry)) (now (trail .entry)) (now (heights .entry)) (now (answers .entry))
         r (now (masks .exit)) (now (cells .exit)) (now (trail .exit)) (now (heights .exit)) (now (answers .exit)) ⌝ }
 {
@@ -48,8 +46,6 @@ pub fn run(
             cells,
             trail,
             heights,
-            lowers,
-            uppers,
             n,
             k,
             at,
@@ -68,18 +64,16 @@ pub fn run(
 pub fn step(
     masks: &mut [u32],
     cells: &mut [u16],
-    trail: &mut [u16],
+    trail: &mut [u8],
     heights: &mut [u16],
-    lowers: &[u32],
-    uppers: &[u32],
     n: usize,
     k: u32,
     session: Session,
     call: Call,
     i: usize,
 ) -> Stepped
-    requires { ⌜ Running (now masks) (now cells) (now trail) (now heights) (now lowers) (now uppers) n k session ⌝ }
-    ensures { λ r. ⌜ Steps (now (lowers .entry)) (now (uppers .entry)) n k i (callGiven call) session
+    requires { ⌜ Running (now masks) (now cells) (now trail) (now heights) n k session ⌝ }
+    ensures { λ r. ⌜ Steps n k i (callGiven call) session
         (now (masks .entry)) (now (cells .entry)) (now (trail .entry)) (now (heights .entry))
         (now (masks .exit)) (now (cells .exit)) (now (trail .exit)) (now (heights .exit)) r ⌝ }
 {
@@ -100,8 +94,6 @@ pub fn step(
         cells,
         trail,
         heights,
-        lowers,
-        uppers,
         n,
         k,
         session,
@@ -114,18 +106,16 @@ pub fn step(
 fn perform(
     masks: &mut [u32],
     cells: &mut [u16],
-    trail: &mut [u16],
+    trail: &mut [u8],
     heights: &mut [u16],
-    lowers: &[u32],
-    uppers: &[u32],
     n: usize,
     k: u32,
     session: Session,
     call: Call,
     i: usize,
 ) -> Stepped
-    requires { ⌜ Performing (now masks) (now cells) (now trail) (now heights) (now lowers) (now uppers) n k session (callGiven call) ⌝ }
-    ensures { λ r. ⌜ Acts (now (lowers .entry)) (now (uppers .entry)) n k i (callGiven call) session
+    requires { ⌜ Performing (now masks) (now cells) (now trail) (now heights) n k session (callGiven call) ⌝ }
+    ensures { λ r. ⌜ Acts n k i (callGiven call) session
         (now (masks .entry)) (now (cells .entry)) (now (trail .entry)) (now (heights .entry))
         (now (masks .exit)) (now (cells .exit)) (now (trail .exit)) (now (heights .exit)) r ⌝ }
 {
@@ -139,8 +129,6 @@ fn perform(
                 cells,
                 trail,
                 heights,
-                lowers,
-                uppers,
                 n,
                 k,
                 session,
@@ -156,8 +144,6 @@ fn perform(
                 cells,
                 trail,
                 heights,
-                lowers,
-                uppers,
                 n,
                 k,
                 session,
@@ -171,7 +157,7 @@ fn perform(
             return mark(heights, session);
         }
         4 => {
-            return back(masks, cells, trail, heights, lowers, uppers, n, k, session);
+            return back(masks, cells, trail, heights, n, k, session);
         }
         5 => {
             return show(masks, session, slot);

@@ -149,7 +149,10 @@ module _ {masks₀ cells₀ trail masks cells : List ℕ} {n k from to i : ℕ} 
   pub putting-end : i ≤ from → Undone masks₀ cells₀ trail n k from to masks cells
   putting-end i≤from =
       let none : i - from ≡ 0 = omega arith in
-      record { restored = λ old c restores. restores-done n k trail from masks cells old c (rw none at (putting .rest old c restores)) }
+      record {
+        cells-size = putting .cells-size;
+        restored = λ old c restores. restores-done n k trail from masks cells old c (rw none at (putting .rest old c restores));
+      }
 
 -- ---- after a call of the filter, from m to m′
 module _ {n k : ℕ} {m c t m′ c′ t′ : List ℕ} {top h : ℕ} (moved : Moved n k m c t top m′ c′ t′ h) where

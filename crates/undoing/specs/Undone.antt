@@ -59,5 +59,6 @@ pub record Undoable (masks cells trail : List ℕ) (n k from to : ℕ) : Type 0 
   pub restores : Restores n k trail from (to - from) masks cells old old-cells
 
 pub record Undone (masks cells trail : List ℕ) (n k from to : ℕ) (masks′ cells′ : List ℕ) : Type 0 where
+  pub cells-size : length cells′ ≡ length cells
   pub restored : (old old-cells : List ℕ) → Restores n k trail from (to - from) masks cells old old-cells
       → (masks′ ≡ old) × (cells′ ≡ old-cells)

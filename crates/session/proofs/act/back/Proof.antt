@@ -1,4 +1,5 @@
--- `session::act::back` meets its contract: the trail from the latest mark's height on, put back, gives the masks saved there (`back-acts`). Assumes nothing.
+-- `session::act::back` meets its contract: the strikes from the latest mark's height on, taken back, lead to the masks saved there (`back-acts`).
+-- Assumes nothing.
 use borrow.Author.Needs.{needs}
 use Rattle.session.proofs.CallLaws.{backing-undoable, back-acts}
 use Rattle.session.proofs.act.back.Statement.{statement}
@@ -12,7 +13,7 @@ height-requires c κs = search needs
 
 undo-requires : tie.Need-undo-requires
 undo-requires c κs =
-    backing-undoable (c .before .before .before .before .before .before .before .before .before .before .pre) (c .before .before .height .ensures)
+    backing-undoable (c .before .before .before .before .before .before .before .before .pre) (c .before .before .height .ensures)
 
 same-length : tie.Need-same-length
 same-length c = search needs
@@ -22,7 +23,7 @@ same-length-2 c = search needs
 
 returns : tie.Need-returns
 returns c =
-    back-acts (c .before .before .before .before .before .before .before .before .before .before .before .before .before .before .before .pre) (c .before .before .before .before .before .before .before .height .ensures) (c .before .before .before .before .undo .ensures)
+    back-acts (c .before .before .before .before .before .before .before .before .before .before .before .before .before .pre) (c .before .before .before .before .before .before .before .height .ensures) (c .before .before .before .before .undo .ensures)
 
 pub back-spec : {M : Type 1} → statement M
 back-spec =

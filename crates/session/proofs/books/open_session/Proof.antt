@@ -31,7 +31,7 @@ same-length-5 c = search needs
 
 returns : tie.Need-returns
 returns c =
-    opens-live (c .before .before .before .before .before .before .before .before .before .before .before .before .before .before .before .before .before .before .before .before .before .before .before .before .before .pre) (c .before .before .before .before .before .before .before .before .before .before .before .before .before .open-book .kept .1 .0) (c .before .before .before .before .before .before .before .before .before .before .before .before .before .open-book .kept .1 .1 .0) (c .before .before .before .before .before .before .before .before .before .before .before .before .before .open-book .kept .1 .1 .1 .0) (c .before .before .before .before .before .before .before .before .before .before .before .before .before .open-book .kept .1 .1 .1 .1 .0) (c .before .before .before .before .before .before .before .before .before .before .before .before .before .open-book .kept .1 .1 .1 .1 .1 .0) (c .before .before .before .before .before .before .before .before .before .before .before .before .before .open-book .result) (c .before .outcome .given .1) (c .before .before .before .before .before .before .before .before .before .before .before .before .before .open-book .ensures)
+    opens-live (c .before .before .before .before .before .before .before .before .before .before .before .before .before .before .before .before .before .before .before .before .before .before .before .before .before .pre) (c .before .before .before .before .before .before .before .before .before .before .before .before .before .open-book .kept .1 .0) (c .before .before .before .before .before .before .before .before .before .before .before .before .before .open-book .kept .1 .1 .0) (c .before .before .before .before .before .before .before .before .before .before .before .before .before .open-book .kept .1 .1 .1 .0) (c .before .before .before .before .before .before .before .before .before .before .before .before .before .open-book .last .1 .1 .1 .1 .0) (c .before .before .before .before .before .before .before .before .before .before .before .before .before .open-book .last .1 .1 .1 .1 .1 .0) (c .before .before .before .before .before .before .before .before .before .before .before .before .before .open-book .result) (c .before .outcome .given .1) (c .before .before .before .before .before .before .before .before .before .before .before .before .before .open-book .ensures)
 
 enum-told : tie.Need-enum-told
 enum-told c = search needs
@@ -56,7 +56,7 @@ same-length-10 c = search needs
 
 returns-2 : tie.Need-returns-2
 returns-2 c =
-    opens-dead (c .before .before .before .before .before .before .before .before .before .before .before .before .before .before .before .before .before .before .before .before .before .before .before .before .before .before .before .before .pre) (c .before .before .clear .kept .0 ∙ c .before .before .before .before .before .before .before .before .before .before .before .before .before .before .before .before .open-book .kept .1 .0) (c .before .before .before .before .before .before .before .before .before .before .before .before .before .before .before .before .open-book .kept .1 .1 .0) (c .before .before .before .before .before .before .before .before .before .before .before .before .before .before .before .before .open-book .kept .1 .1 .1 .0) (c .before .before .before .before .before .before .before .before .before .before .before .before .before .before .before .before .open-book .kept .1 .1 .1 .1 .0) (c .before .before .before .before .before .before .before .before .before .before .before .before .before .before .before .before .open-book .kept .1 .1 .1 .1 .1 .0) (c .before .before .before .before .before .before .before .before .before .before .before .before .before .before .before .before .open-book .last .1 .0) (c .before .before .before .before .before .before .before .before .before .before .before .before .before .before .before .before .open-book .result) (c .before .before .before .before .enum-told .given .1) (c .before .before .before .before .before .before .before .before .before .before .before .before .before .before .before .before .open-book .ensures) (c .before .before .clear .ensures ∙ ap (λ (m : ℕ). replicate m 0) (c .before .before .before .before .before .before .before .before .before .before .before .before .before .before .before .before .open-book .kept .1 .0))
+    opens-dead (c .before .before .before .before .before .before .before .before .before .before .before .before .before .before .before .before .before .before .before .before .before .before .before .before .before .before .before .before .pre) (c .before .before .clear .kept .0 ∙ c .before .before .before .before .before .before .before .before .before .before .before .before .before .before .before .before .open-book .kept .1 .0) (c .before .before .before .before .before .before .before .before .before .before .before .before .before .before .before .before .open-book .kept .1 .1 .0) (c .before .before .before .before .before .before .before .before .before .before .before .before .before .before .before .before .open-book .kept .1 .1 .1 .0) (c .before .before .before .before .before .before .before .before .before .before .before .before .before .before .before .before .open-book .last .1 .0) (c .before .before .before .before .before .before .before .before .before .before .before .before .before .before .before .before .open-book .last .1 .1 .1 .1 .0) (c .before .before .before .before .before .before .before .before .before .before .before .before .before .before .before .before .open-book .last .1 .1 .1 .1 .1 .0) (c .before .before .before .before .before .before .before .before .before .before .before .before .before .before .before .before .open-book .result) (c .before .before .before .before .enum-told .given .1) (c .before .before .before .before .before .before .before .before .before .before .before .before .before .before .before .before .open-book .ensures) (c .before .before .clear .ensures ∙ ap (λ (m : ℕ). replicate m 0) (c .before .before .before .before .before .before .before .before .before .before .before .before .before .before .before .before .open-book .kept .1 .0))
 
 pub open-session-spec : {M : Type 1} → statement M
 open-session-spec =

@@ -10,7 +10,7 @@ use Rattle.session.proofs.steps.perform.Tie as tie
 
 decide-requires : tie.Need-decide-requires
 decide-requires c κs =
-    decide-deciding true (c .before .before .before .before .before .before .before .before .before .before .before .args .call .slot) (c .before .before .before .before .before .before .before .before .before .before .before .args .call .value) (kind-assign _ _ _ (c .before .before .before .before .match .keys1)) (c .before .before .before .before .before .before .before .before .before .before .before .pre)
+    decide-deciding true (c .before .before .before .before .before .before .before .before .before .args .call .slot) (c .before .before .before .before .before .before .before .before .before .args .call .value) (kind-assign _ _ _ (c .before .before .before .before .match .keys1)) (c .before .before .before .before .before .before .before .before .before .pre)
 
 same-length : tie.Need-same-length
 same-length c = search needs
@@ -30,7 +30,7 @@ returns c =
 
 decide-requires-2 : tie.Need-decide-requires-2
 decide-requires-2 c κs =
-    decide-deciding false (c .before .before .before .before .before .before .before .before .before .before .before .args .call .slot) (c .before .before .before .before .before .before .before .before .before .before .before .args .call .value) (kind-remove _ _ _ (c .before .before .before .before .match .keys2)) (c .before .before .before .before .before .before .before .before .before .before .before .pre)
+    decide-deciding false (c .before .before .before .before .before .before .before .before .before .args .call .slot) (c .before .before .before .before .before .before .before .before .before .args .call .value) (kind-remove _ _ _ (c .before .before .before .before .match .keys2)) (c .before .before .before .before .before .before .before .before .before .pre)
 
 same-length-5 : tie.Need-same-length-5
 same-length-5 c = search needs
@@ -50,18 +50,18 @@ returns-2 c =
 
 mark-requires : tie.Need-mark-requires
 mark-requires c κs =
-    mark-marking (kind-mark _ _ _ (c .before .match .keys3)) (c .before .before .before .before .before .before .before .before .pre)
+    mark-marking (kind-mark _ _ _ (c .before .match .keys3)) (c .before .before .before .before .before .before .pre)
 
 same-length-9 : tie.Need-same-length-9
 same-length-9 c = search needs
 
 returns-3 : tie.Need-returns-3
 returns-3 c =
-    acts-at (kind-mark _ _ _ (c .before .before .before .before .match .keys3)) (c .before .before .mark .ensures _ _ _ _ _ _ _ _)
+    acts-at (kind-mark _ _ _ (c .before .before .before .before .match .keys3)) (c .before .before .mark .ensures _ _ _ _ _ _)
 
 back-requires : tie.Need-back-requires
 back-requires c κs =
-    back-backing (kind-back _ _ _ (c .before .before .before .before .match .keys4)) (c .before .before .before .before .before .before .before .before .before .before .before .pre)
+    back-backing (kind-back _ _ _ (c .before .before .before .before .match .keys4)) (c .before .before .before .before .before .before .before .before .before .pre)
 
 same-length-10 : tie.Need-same-length-10
 same-length-10 c = search needs
@@ -81,44 +81,44 @@ returns-4 c =
 
 show-requires : tie.Need-show-requires
 show-requires c κs =
-    show-inside (c .before .before .before .before .before .before .before .before .args .call .slot) (kind-show _ _ _ (c .before .match .keys5)) (c .before .before .before .before .before .before .before .before .pre)
+    show-inside (c .before .before .before .before .before .before .args .call .slot) (kind-show _ _ _ (c .before .match .keys5)) (c .before .before .before .before .before .before .pre)
 
 same-length-14 : tie.Need-same-length-14
 same-length-14 c = search needs
 
 returns-5 : tie.Need-returns-5
 returns-5 c =
-    acts-at (kind-show _ _ _ (c .before .before .match .keys5)) (c .show .ensures _ _ _ _ _ _ _ _)
+    acts-at (kind-show _ _ _ (c .before .before .match .keys5)) (c .show .ensures _ _ _ _ _ _)
 
 walls-requires : tie.Need-walls-requires
 walls-requires c κs =
-    walls-counting false (c .before .before .before .before .before .before .before .before .args .call .value) (kind-upper _ _ _ (c .before .match .keys6)) (c .before .before .before .before .before .before .before .before .pre)
+    walls-counting false (c .before .before .before .before .before .before .args .call .value) (kind-upper _ _ _ (c .before .match .keys6)) (c .before .before .before .before .before .before .pre)
 
 same-length-15 : tie.Need-same-length-15
 same-length-15 c = search needs
 
 returns-6 : tie.Need-returns-6
 returns-6 c =
-    acts-at (kind-upper _ _ _ (c .before .before .match .keys6)) (c .walls .ensures _ _ _ _ _ _)
+    acts-at (kind-upper _ _ _ (c .before .before .match .keys6)) (c .walls .ensures _ _ _ _)
 
 walls-requires-2 : tie.Need-walls-requires-2
 walls-requires-2 c κs =
-    walls-counting true (c .before .before .before .before .before .before .before .before .args .call .value) (kind-lower _ _ _ (c .before .match .keys7)) (c .before .before .before .before .before .before .before .before .pre)
+    walls-counting true (c .before .before .before .before .before .before .args .call .value) (kind-lower _ _ _ (c .before .match .keys7)) (c .before .before .before .before .before .before .pre)
 
 same-length-16 : tie.Need-same-length-16
 same-length-16 c = search needs
 
 returns-7 : tie.Need-returns-7
 returns-7 c =
-    acts-at (kind-lower _ _ _ (c .before .before .match .keys7)) (c .walls2 .ensures _ _ _ _ _ _)
+    acts-at (kind-lower _ _ _ (c .before .before .match .keys7)) (c .walls2 .ensures _ _ _ _)
 
 returns-8 : tie.Need-returns-8
 returns-8 c =
-    absurd (unknown-refused (kind-none _ _ _ (c .match .keys8)) (c .before .before .before .before .before .before .before .pre))
+    absurd (unknown-refused (kind-none _ _ _ (c .match .keys8)) (c .before .before .before .before .before .pre))
 
 returns-9 : tie.Need-returns-9
 returns-9 c =
-    let no = c .match .rest in absurd (unknown-refused (callOf-unknown _ _ _ (kind-high _ (no .1) (no .0 .0 .0 .0 .0 .0 .0 .1) (no .0 .0 .0 .0 .0 .0 .1) (no .0 .0 .0 .0 .0 .1) (no .0 .0 .0 .0 .1) (no .0 .0 .0 .1) (no .0 .0 .1) (no .0 .1))) (c .before .before .before .before .before .before .before .pre))
+    let no = c .match .rest in absurd (unknown-refused (callOf-unknown _ _ _ (kind-high _ (no .1) (no .0 .0 .0 .0 .0 .0 .0 .1) (no .0 .0 .0 .0 .0 .0 .1) (no .0 .0 .0 .0 .0 .1) (no .0 .0 .0 .0 .1) (no .0 .0 .0 .1) (no .0 .0 .1) (no .0 .1))) (c .before .before .before .before .before .pre))
 
 pub perform-spec : {M : Type 1} → statement M
 perform-spec =

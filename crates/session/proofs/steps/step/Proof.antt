@@ -11,19 +11,19 @@ is-dead-requires c κs = search needs
 refusal-of-requires : tie.Need-refusal-of-requires
 refusal-of-requires c κs = search needs
 
-cast-t18 : tie.Need-cast-t18
-cast-t18 c = search needs
+cast-t16 : tie.Need-cast-t16
+cast-t16 c = search needs
 
-add-t19 : tie.Need-add-t19
-add-t19 c = search needs
+add-t17 : tie.Need-add-t17
+add-t17 c = search needs
 
 returns : tie.Need-returns
 returns c =
-    steps-refused (c .before .before .before .before .before .before .before .before .before .args .i) (c .before .before .before .before .before .before .before .before .before .args .session .marks) (c .before .refusal-of .result) (c .before .before .is-dead .result) refl (c .before .before .is-dead .ensures) (c .before .refusal-of .ensures) (c .if1 .taken)
+    steps-refused (c .before .before .before .before .before .before .before .args .i) (c .before .before .before .before .before .before .before .args .session .marks) (c .before .refusal-of .result) (c .before .before .is-dead .result) refl (c .before .before .is-dead .ensures) (c .before .refusal-of .ensures) (c .if1 .taken)
 
 perform-requires : tie.Need-perform-requires
 perform-requires c κs =
-    steps-performing (c .before .before .before .before .before .before .before .before .before .before .before .before .before .args .i) (c .before .before .before .before .before .before .before .before .before .before .before .before .before .args .session .marks) (c .before .before .before .before .before .refusal-of .result) (c .before .before .before .before .before .before .is-dead .result) refl (c .before .before .before .before .before .before .is-dead .ensures) (c .before .before .before .before .before .refusal-of .ensures) (c .before .before .before .before .before .before .before .before .before .before .before .before .before .pre) (c .before .before .before .before .if1 .left)
+    steps-performing (c .before .before .before .before .before .before .before .before .before .before .before .args .i) (c .before .before .before .before .before .before .before .before .before .before .before .args .session .marks) (c .before .before .before .before .before .refusal-of .result) (c .before .before .before .before .before .before .is-dead .result) refl (c .before .before .before .before .before .before .is-dead .ensures) (c .before .before .before .before .before .refusal-of .ensures) (c .before .before .before .before .before .before .before .before .before .before .before .pre) (c .before .before .before .before .if1 .left)
 
 same-length : tie.Need-same-length
 same-length c = search needs
@@ -39,7 +39,7 @@ same-length-4 c = search needs
 
 returns-2 : tie.Need-returns-2
 returns-2 c =
-    steps-done (c .before .before .before .before .before .before .before .before .before .before .before .before .before .before .before .before .before .before .before .before .before .before .args .i) (c .before .before .before .before .before .before .before .before .before .before .before .before .before .before .before .before .before .before .before .before .before .before .args .session .marks) (c .before .before .before .before .before .before .before .before .before .before .before .before .before .before .refusal-of .result) (c .before .before .before .before .before .before .before .before .before .before .before .before .before .before .before .is-dead .result) refl (c .before .before .before .before .before .before .before .before .before .before .before .before .before .before .before .is-dead .ensures) (c .before .before .before .before .before .before .before .before .before .before .before .before .before .before .refusal-of .ensures) (c .before .before .before .before .before .before .before .before .before .before .before .before .before .if1 .left) (c .before .before .before .before .before .before .before .before .perform .ensures)
+    steps-done (c .before .before .before .before .before .before .before .before .before .before .before .before .before .before .before .before .before .before .before .before .args .i) (c .before .before .before .before .before .before .before .before .before .before .before .before .before .before .before .before .before .before .before .before .args .session .marks) (c .before .before .before .before .before .before .before .before .before .before .before .before .before .before .refusal-of .result) (c .before .before .before .before .before .before .before .before .before .before .before .before .before .before .before .is-dead .result) refl (c .before .before .before .before .before .before .before .before .before .before .before .before .before .before .before .is-dead .ensures) (c .before .before .before .before .before .before .before .before .before .before .before .before .before .before .refusal-of .ensures) (c .before .before .before .before .before .before .before .before .before .before .before .before .before .if1 .left) (c .before .before .before .before .before .before .before .before .perform .ensures)
 
 pub step-spec : {M : Type 1} → statement M
 step-spec =
@@ -47,8 +47,8 @@ step-spec =
     (tie.spec
     is-dead-requires
     refusal-of-requires
-    cast-t18
-    add-t19
+    cast-t16
+    add-t17
     returns
     perform-requires
     same-length
