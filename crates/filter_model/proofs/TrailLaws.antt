@@ -154,8 +154,7 @@ restores-same n k trail trail′ from (suc j) M′ c′ M c kept restores =
       kept .below (n + 3 * (from + j)) (omega arith) (omega arith),
       kept .below (n + 3 * (from + j) + 1) (omega arith) (omega arith),
       kept .below (n + 3 * (from + j) + 2) (omega arith) (omega arith),
-    )
-    (
+    ) (
       restores .0,
       restores .1,
       taken-same taken trail′ (λ w fixed. kept .notes (slotAt n trail (from + j)) (taken .slot-in) (le-of-eq (fixed-single _ w fixed))),

@@ -45,7 +45,7 @@ working-mark {R} {saved} {masks} {cells} {trail} {heights} {n} {k} {top} M marks
       rules = working .rules;
       mirror = working .mirror;
       base = working .base;
-      pile = 
+      pile =
           pile-mark n k (working .table) trail heights masks cells top saved (omega (arith, marks-are, free)) (working .mirror) (working .base)
           (working .pile);
     })

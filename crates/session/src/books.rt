@@ -33,17 +33,7 @@ pub fn run_book(
     let live = !is_shut(standing);
     let n = slots(book);
     let k = values(book) as u32;
-    let session = run(
-        calls,
-        answers,
-        masks,
-        cells,
-        trail,
-        heights,
-        n,
-        k,
-        fresh,
-    );
+    let session = run(calls, answers, masks, cells, trail, heights, n, k, fresh);
     Ended { session, live }
 }
 

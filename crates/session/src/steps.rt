@@ -41,17 +41,7 @@ pub fn run(
     let mut at = session;
     for i in 0..count {
         let call = call_at(calls, i);
-        let stepped = step(
-            masks,
-            cells,
-            trail,
-            heights,
-            n,
-            k,
-            at,
-            call,
-            i,
-        );
+        let stepped = step(masks, cells, trail, heights, n, k, at, call, i);
         let first = stepped.first;
         let second = stepped.second;
         write_words(answers, i, first, second);
@@ -89,17 +79,7 @@ pub fn step(
             second: 0,
         };
     }
-    perform(
-        masks,
-        cells,
-        trail,
-        heights,
-        n,
-        k,
-        session,
-        call,
-        i,
-    )
+    perform(masks, cells, trail, heights, n, k, session, call, i)
 }
 
 // Call i of a list, where no number refuses it.

@@ -22,7 +22,8 @@ same-length c = search needs
 
 returns : tie.Need-returns
 returns c =
-    dropped-quiet (c .before .before .before .before .before .fall-in .ensures) (c .before .hit .given .1)
+    let fall-in = c .before .before .before .before .before .fall-in in
+    dropped-quiet (fall-in .ensures) (c .before .hit .given .1)
 
 enum-told : tie.Need-enum-told
 enum-told c = search needs
@@ -32,7 +33,8 @@ same-length-2 c = search needs
 
 returns-2 : tie.Need-returns-2
 returns-2 c =
-    dropped-clash (c .before .before .before .before .fall-in .ensures) (c .enum-told .given .1)
+    let fall-in = c .before .before .before .before .fall-in in
+    dropped-clash (fall-in .ensures) (c .enum-told .given .1)
 
 enum-known-hit-2 : tie.Need-enum-known-hit-2
 enum-known-hit-2 c = search needs
@@ -42,7 +44,8 @@ same-length-3 c = search needs
 
 returns-3 : tie.Need-returns-3
 returns-3 c =
-    dropped-reached (c .before .before .before .before .before .fall-in .ensures) (c .before .hit2 .given .1)
+    let fall-in = c .before .before .before .before .before .fall-in in
+    dropped-reached (fall-in .ensures) (c .before .hit2 .given .1)
 
 pub fall-row-spec : {M : Type 1} → statement M
 fall-row-spec =

@@ -19,11 +19,14 @@ same-length c = search needs
 
 returns : tie.Need-returns
 returns c =
-    contradicted-empty (c .before .before .before .before .before .before .pre .0) (c .before .before .before .before .before .before .pre .1) (sym (c .before .without-value .ensures) ∙ c .if1 .taken)
+    let pre = c .before .before .before .before .before .before .pre in
+    contradicted-empty (pre .0) (pre .1) (sym (c .before .without-value .ensures) ∙ c .if1 .taken)
 
 spent-requires : tie.Need-spent-requires
 spent-requires c κs =
-    world-row (c .before .before .before .before .before .before .before .pre .0 .world) (c .before .before .before .before .before .before .before .args .v) _ (omega (arith, c .before .before .before .before .before .before .before .pre .0 .value-in)) refl
+    let pre = c .before .before .before .before .before .before .before .pre in
+    let args = c .before .before .before .before .before .before .before .args in
+    world-row (pre .0 .world) (args .v) _ (omega (arith, pre .0 .value-in)) refl
 
 same-length-2 : tie.Need-same-length-2
 same-length-2 c = search needs
@@ -33,7 +36,8 @@ same-length-3 c = search needs
 
 returns-2 : tie.Need-returns-2
 returns-2 c =
-    contradicted-low (c .before .before .before .before .before .before .before .before .before .pre .0) (c .before .before .before .before .before .before .before .before .before .pre .1) _ (c .before .spent .ensures) (c .if2 .taken)
+    let pre = c .before .before .before .before .before .before .before .before .before .pre in
+    contradicted-low (pre .0) (pre .1) _ (c .before .spent .ensures) (c .if2 .taken)
 
 is-single-requires : tie.Need-is-single-requires
 is-single-requires c κs = search needs
@@ -43,17 +47,27 @@ store-requires c κs = search needs
 
 fall-row-requires : tie.Need-fall-row-requires
 fall-row-requires c κs =
-    let ready = c .before .before .before .before .before .before .before .before .before .before .before .before .before .before .before .before .pre .0 in (
+    let pre = c .before .before .before .before .before .before .before .before .before .before .before .before .before .before .before .before .pre in
+    let args = c .before .before .before .before .before .before .before .before .before .before .before .before .before .before .before .before .args in
+    let ready = pre .0 in (
       omega (arith, ready .slot-in),
-      world-row (ready .world) (c .before .before .before .before .before .before .before .before .before .before .before .before .before .before .before .before .args .v) _ (omega (arith, ready .value-in)) refl,
+      world-row (ready .world) (args .v) _ (omega (arith, ready .value-in)) refl,
       omega (arith, ready .world .slots-fit),
     )
 
 push-requires : tie.Need-push-requires
 push-requires c κs =
-    let ready = c .before .before .before .before .before .before .before .before .before .before .before .before .before .before .before .before .before .before .before .before .pre .0 in
-    let low = low-note ready (c .before .before .before .before .before .before .before .before .before .before .before .before .before .before .before .before .before .before .before .before .pre .1) _ (c .before .before .before .before .before .before .before .before .before .before .before .before .before .before .before .without-value .ensures) (c .before .before .before .before .before .before .before .before .before .before .before .before .before .before .if1 .left) (c .before .before .before .before .before .before .before .before .before .before .before .before .spent .ensures) (c .before .before .before .before .before .before .before .before .before .before .before .if2 .left) (c .before .before .before .fall-row .ensures) in
-    (ready-room ready (c .before .before .before .before .before .before .before .before .before .before .before .before .before .before .before .before .before .before .before .before .pre .1), ready-byte ready, ready-value ready, omega (arith, low, ready-byte ready))
+    let fall-row = c .before .before .before .fall-row in
+    let if2 = c .before .before .before .before .before .before .before .before .before .before .before .if2 in
+    let spent = c .before .before .before .before .before .before .before .before .before .before .before .before .spent in
+    let if1 = c .before .before .before .before .before .before .before .before .before .before .before .before .before .before .if1 in
+    let without-value = c .before .before .before .before .before .before .before .before .before .before .before .before .before .before .before
+    .without-value in
+    let pre = c .before .before .before .before .before .before .before .before .before .before .before .before .before .before .before .before .before
+    .before .before .before .pre in
+    let ready = pre .0 in
+    let low = low-note ready (pre .1) _ (without-value .ensures) (if1 .left) (spent .ensures) (if2 .left) (fall-row .ensures) in
+    (ready-room ready (pre .1), ready-byte ready, ready-value ready, omega (arith, low, ready-byte ready))
 
 same-length-4 : tie.Need-same-length-4
 same-length-4 c = search needs
@@ -66,23 +80,38 @@ same-length-6 c = search needs
 
 returns-3 : tie.Need-returns-3
 returns-3 c =
-    removed-plain (c .before .before .before .before .before .before .before .before .before .before .before .before .before .before .before .before .before .before .before .before .before .before .before .pre .0) (c .before .before .before .before .before .before .before .before .before .before .before .before .before .before .before .before .before .before .before .before .before .before .before .pre .1) _ (c .before .before .before .before .before .before .before .before .before .before .before .before .before .before .before .before .before .before .without-value .ensures) (c .before .before .before .before .before .before .before .before .before .before .before .before .before .before .before .before .before .if1 .left) (c .before .before .before .before .before .before .before .before .before .before .before .before .before .before .before .spent .ensures) (c .before .before .before .before .before .before .before .before .before .before .before .before .before .before .if2 .left)
-    (c .before .before .before .before .before .before .fall-row .ensures) (c .before .before .before .before .before .before .before .before .before .before .store .ensures) (c .before .before .push .ensures)
-    (eqb-false _ _ (sym (c .before .before .before .before .before .before .before .before .before .before .before .before .before .is-single .ensures) ∙ not-true _ (c .before .before .before .before .before .before .before .before .before .before .before .before .if3 .taken)))
+    let push = c .before .before .push in
+    let fall-row = c .before .before .before .before .before .before .fall-row in
+    let store = c .before .before .before .before .before .before .before .before .before .before .store in
+    let if3 = c .before .before .before .before .before .before .before .before .before .before .before .before .if3 in
+    let is-single = c .before .before .before .before .before .before .before .before .before .before .before .before .before .is-single in
+    let if2 = c .before .before .before .before .before .before .before .before .before .before .before .before .before .before .if2 in
+    let spent = c .before .before .before .before .before .before .before .before .before .before .before .before .before .before .before .spent in
+    let if1 = c .before .before .before .before .before .before .before .before .before .before .before .before .before .before .before .before .before
+    .if1 in
+    let without-value = c .before .before .before .before .before .before .before .before .before .before .before .before .before .before .before .before
+    .before .before .without-value in
+    let pre = c .before .before .before .before .before .before .before .before .before .before .before .before .before .before .before .before .before
+    .before .before .before .before .before .before .pre in
+    removed-plain (pre .0) (pre .1) _ (without-value .ensures) (if1 .left) (spent .ensures) (if2 .left)
+    (fall-row .ensures) (store .ensures) (push .ensures)
+    (eqb-false _ _ (sym (is-single .ensures) ∙ not-true _ (if3 .taken)))
 
 single-value-requires : tie.Need-single-value-requires
-single-value-requires c κs =
-    eqb-true _ _ (sym (c .before .is-single .ensures) ∙ not-false _ (c .if3 .left))
+single-value-requires c κs = eqb-true _ _ (sym (c .before .is-single .ensures) ∙ not-false _ (c .if3 .left))
 
 add-spent : tie.Need-add-spent
 add-spent c = search needs
 
 spent-requires-2 : tie.Need-spent-requires-2
 spent-requires-2 c κs =
-    let ready = c .before .before .before .before .before .before .before .before .before .before .before .before .before .pre .0 in
-    let left = sym (c .before .before .before .before .before .before .before .before .without-value .ensures) ∙ c .before .single-value .ensures .1 in
-    world-row (ready .world) (c .before .before .before .before .before .before .before .before .before .before .before .before .before .args .k + c .before .single-value .result) _
-    (omega (arith, left-in (c .before .before .before .before .before .before .before .before .before .before .before .before .before .args .slot) (c .before .before .before .before .before .before .before .before .before .before .before .before .before .args .v) (c .before .single-value .result) (ready .world) left)) refl
+    let without-value = c .before .before .before .before .before .before .before .before .without-value in
+    let pre = c .before .before .before .before .before .before .before .before .before .before .before .before .before .pre in
+    let args = c .before .before .before .before .before .before .before .before .before .before .before .before .before .args in
+    let ready = pre .0 in
+    let left = sym (without-value .ensures) ∙ c .before .single-value .ensures .1 in
+    world-row (ready .world) (args .k + c .before .single-value .result) _
+    (omega (arith, left-in (args .slot) (args .v) (c .before .single-value .result) (ready .world) left)) refl
 
 same-length-7 : tie.Need-same-length-7
 same-length-7 c = search needs
@@ -92,44 +121,94 @@ same-length-8 c = search needs
 
 returns-4 : tie.Need-returns-4
 returns-4 c =
-    contradicted-high (c .before .before .before .before .before .before .before .before .before .before .before .before .before .before .before .pre .0) (c .before .before .before .before .before .before .before .before .before .before .before .before .before .before .before .pre .1) _ _ (sym (c .before .before .before .before .before .before .before .before .before .before .without-value .ensures) ∙ c .before .before .before .single-value .ensures .1) (c .before .spent2 .ensures)
-    (omega (arith, c .if4 .taken, c .before .before .before .before .before .before .before .before .before .before .before .before .before .before .before .pre .0 .slot-in))
+    let single-value = c .before .before .before .single-value in
+    let without-value = c .before .before .before .before .before .before .before .before .before .before .without-value in
+    let pre = c .before .before .before .before .before .before .before .before .before .before .before .before .before .before .before .pre in
+    contradicted-high (pre .0) (pre .1) _ _ (sym (without-value .ensures) ∙ single-value .ensures .1) (c .before .spent2 .ensures)
+    (omega (arith, c .if4 .taken, pre .0 .slot-in))
 
 store-requires-2 : tie.Need-store-requires-2
 store-requires-2 c κs = search needs
 
 fall-row-requires-2 : tie.Need-fall-row-requires-2
 fall-row-requires-2 c κs =
-    let ready = c .before .before .before .before .before .before .before .before .before .before .before .before .before .before .before .before .before .before .before .before .pre .0 in (
+    let pre = c .before .before .before .before .before .before .before .before .before .before .before .before .before .before .before .before .before
+    .before .before .before .pre in
+    let args = c .before .before .before .before .before .before .before .before .before .before .before .before .before .before .before .before .before
+    .before .before .before .args in
+    let ready = pre .0 in (
       omega (arith, ready .slot-in),
-      world-row (ready .world) (c .before .before .before .before .before .before .before .before .before .before .before .before .before .before .before .before .before .before .before .before .args .v) _ (omega (arith, ready .value-in)) refl,
+      world-row (ready .world) (args .v) _ (omega (arith, ready .value-in)) refl,
       omega (arith, ready .world .slots-fit),
     )
 
 push-requires-2 : tie.Need-push-requires-2
 push-requires-2 c κs =
-    let ready = c .before .before .before .before .before .before .before .before .before .before .before .before .before .before .before .before .before .before .before .before .before .before .before .before .pre .0 in
-    let low = low-note ready (c .before .before .before .before .before .before .before .before .before .before .before .before .before .before .before .before .before .before .before .before .before .before .before .before .pre .1) _ (c .before .before .before .before .before .before .before .before .before .before .before .before .before .before .before .before .before .before .before .without-value .ensures) (c .before .before .before .before .before .before .before .before .before .before .before .before .before .before .before .before .before .before .if1 .left) (c .before .before .before .before .before .before .before .before .before .before .before .before .before .before .before .before .spent .ensures) (c .before .before .before .before .before .before .before .before .before .before .before .before .before .before .before .if2 .left) (c .before .before .before .fall-row2 .ensures) in
-    (ready-room ready (c .before .before .before .before .before .before .before .before .before .before .before .before .before .before .before .before .before .before .before .before .before .before .before .before .pre .1), ready-byte ready, ready-value ready, omega (arith, low, ready-byte ready))
+    let fall-row2 = c .before .before .before .fall-row2 in
+    let if2 = c .before .before .before .before .before .before .before .before .before .before .before .before .before .before .before .if2 in
+    let spent = c .before .before .before .before .before .before .before .before .before .before .before .before .before .before .before .before .spent
+    in
+    let if1 = c .before .before .before .before .before .before .before .before .before .before .before .before .before .before .before .before .before
+    .before .if1 in
+    let without-value = c .before .before .before .before .before .before .before .before .before .before .before .before .before .before .before .before
+    .before .before .before .without-value in
+    let pre = c .before .before .before .before .before .before .before .before .before .before .before .before .before .before .before .before .before
+    .before .before .before .before .before .before .before .pre in
+    let ready = pre .0 in
+    let low = low-note ready (pre .1) _ (without-value .ensures) (if1 .left) (spent .ensures) (if2 .left) (fall-row2 .ensures) in
+    (ready-room ready (pre .1), ready-byte ready, ready-value ready, omega (arith, low, ready-byte ready))
 
 add-fall-row : tie.Need-add-fall-row
 add-fall-row c =
-    omega (arith, c .before .before .before .before .before .before .before .before .before .before .before .before .before .before .before .before .before .before .before .before .before .before .before .before .before .before .before .before .pre .0 .world .values-fit, c .before .before .before .before .before .before .before .before .before .before .before .before .before .before .before .before .single-value .ensures .0)
+    let single-value = c .before .before .before .before .before .before .before .before .before .before .before .before .before .before .before .before
+    .single-value in
+    let pre = c .before .before .before .before .before .before .before .before .before .before .before .before .before .before .before .before .before
+    .before .before .before .before .before .before .before .before .before .before .before .pre in
+    omega (arith, pre .0 .world .values-fit, single-value .ensures .0)
 
 fall-row-requires-3 : tie.Need-fall-row-requires-3
 fall-row-requires-3 c κs =
-    let ready = c .before .before .before .before .before .before .before .before .before .before .before .before .before .before .before .before .before .before .before .before .before .before .before .before .before .before .before .before .pre .0 in
-    let left = sym (c .before .before .before .before .before .before .before .before .before .before .before .before .before .before .before .before .before .before .before .before .before .before .before .without-value .ensures) ∙ c .before .before .before .before .before .before .before .before .before .before .before .before .before .before .before .before .single-value .ensures .1 in
-    let fits = world-row (ready .world) (c .before .before .before .before .before .before .before .before .before .before .before .before .before .before .before .before .before .before .before .before .before .before .before .before .before .before .before .before .args .k + c .before .before .before .before .before .before .before .before .before .before .before .before .before .before .before .before .single-value .result) _
-    (omega (arith, left-in (c .before .before .before .before .before .before .before .before .before .before .before .before .before .before .before .before .before .before .before .before .before .before .before .before .before .before .before .before .args .slot) (c .before .before .before .before .before .before .before .before .before .before .before .before .before .before .before .before .before .before .before .before .before .before .before .before .before .before .before .before .args .v) (c .before .before .before .before .before .before .before .before .before .before .before .before .before .before .before .before .single-value .result) (ready .world) left)) refl in
-    (omega (arith, ready .slot-in), omega (arith, fits, c .before .before .before .before .before .before .before .fall-row2 .ensures .size), omega (arith, ready .world .slots-fit))
+    let fall-row2 = c .before .before .before .before .before .before .before .fall-row2 in
+    let single-value = c .before .before .before .before .before .before .before .before .before .before .before .before .before .before .before .before
+    .single-value in
+    let without-value = c .before .before .before .before .before .before .before .before .before .before .before .before .before .before .before .before
+    .before .before .before .before .before .before .before .without-value in
+    let pre = c .before .before .before .before .before .before .before .before .before .before .before .before .before .before .before .before .before
+    .before .before .before .before .before .before .before .before .before .before .before .pre in
+    let args = c .before .before .before .before .before .before .before .before .before .before .before .before .before .before .before .before .before
+    .before .before .before .before .before .before .before .before .before .before .before .args in
+    let ready = pre .0 in
+    let left = sym (without-value .ensures) ∙ single-value .ensures .1 in
+    let fits = world-row (ready .world) (args .k + single-value .result) _
+    (omega (arith, left-in (args .slot) (args .v) (single-value .result) (ready .world) left)) refl in
+    (omega (arith, ready .slot-in), omega (arith, fits, fall-row2 .ensures .size), omega (arith, ready .world .slots-fit))
 
 note-fixed-requires : tie.Need-note-fixed-requires
 note-fixed-requires c κs =
-    let ready = c .before .before .before .before .before .before .before .before .before .before .before .before .before .before .before .before .before .before .before .before .before .before .before .before .before .before .before .before .before .before .before .before .pre .0 in
-    let high = high-note ready (c .before .before .before .before .before .before .before .before .before .before .before .before .before .before .before .before .before .before .before .before .before .before .before .before .before .before .before .before .before .before .before .before .pre .1) _ (c .before .before .before .before .before .before .before .before .before .before .before .before .before .before .before .before .before .before .before .before .before .before .before .before .before .before .before .without-value .ensures) (c .before .before .before .before .before .before .before .before .before .before .before .before .before .before .before .before .before .before .before .before .before .before .before .before .before .before .if1 .left) (c .before .before .before .before .before .before .before .before .before .before .before .before .before .before .before .before .before .before .before .before .before .before .before .before .spent .ensures) (c .before .before .before .before .before .before .before .before .before .before .before .before .before .before .before .before .before .before .before .before .before .before .before .if2 .left) (c .before .before .before .before .before .before .before .before .before .before .before .fall-row2 .ensures)
-    (c .before .before .before .before .before .before .before .before .before .before .before .before .before .before .before .store2 .ensures) (c .before .before .before .before .before .before .before .push2 .ensures) _ (c .before .before .before .before .before .before .before .before .before .before .before .before .before .before .before .before .before .before .before .before .single-value .ensures .1) (c .before .before .before .before .before .before .before .before .before .before .before .before .before .before .before .before .before .before .spent2 .ensures) (c .before .before .before .before .before .before .before .before .before .before .before .before .before .before .before .before .before .if4 .left) (c .before .before .before .fall-row3 .ensures) in
-    (omega (arith, ready-room ready (c .before .before .before .before .before .before .before .before .before .before .before .before .before .before .before .before .before .before .before .before .before .before .before .before .before .before .before .before .before .before .before .before .pre .1), ready .slot-in, c .before .before .before .before .before .before .before .push2 .kept .0), omega (arith, high, ready-byte ready))
+    let fall-row3 = c .before .before .before .fall-row3 in
+    let push2 = c .before .before .before .before .before .before .before .push2 in
+    let fall-row2 = c .before .before .before .before .before .before .before .before .before .before .before .fall-row2 in
+    let store2 = c .before .before .before .before .before .before .before .before .before .before .before .before .before .before .before .store2 in
+    let if4 = c .before .before .before .before .before .before .before .before .before .before .before .before .before .before .before .before .before
+    .if4 in
+    let spent2 = c .before .before .before .before .before .before .before .before .before .before .before .before .before .before .before .before .before
+    .before .spent2 in
+    let single-value = c .before .before .before .before .before .before .before .before .before .before .before .before .before .before .before .before
+    .before .before .before .before .single-value in
+    let if2 = c .before .before .before .before .before .before .before .before .before .before .before .before .before .before .before .before .before
+    .before .before .before .before .before .before .if2 in
+    let spent = c .before .before .before .before .before .before .before .before .before .before .before .before .before .before .before .before .before
+    .before .before .before .before .before .before .before .spent in
+    let if1 = c .before .before .before .before .before .before .before .before .before .before .before .before .before .before .before .before .before
+    .before .before .before .before .before .before .before .before .before .if1 in
+    let without-value = c .before .before .before .before .before .before .before .before .before .before .before .before .before .before .before .before
+    .before .before .before .before .before .before .before .before .before .before .before .without-value in
+    let pre = c .before .before .before .before .before .before .before .before .before .before .before .before .before .before .before .before .before
+    .before .before .before .before .before .before .before .before .before .before .before .before .before .before .before .pre in
+    let ready = pre .0 in
+    let high = high-note ready (pre .1) _ (without-value .ensures) (if1 .left) (spent .ensures) (if2 .left) (fall-row2 .ensures)
+    (store2 .ensures) (push2 .ensures) _ (single-value .ensures .1) (spent2 .ensures) (if4 .left) (fall-row3 .ensures) in
+    (omega (arith, ready-room ready (pre .1), ready .slot-in, push2 .kept .0), omega (arith, high, ready-byte ready))
 
 same-length-9 : tie.Need-same-length-9
 same-length-9 c = search needs
@@ -142,8 +221,31 @@ same-length-11 c = search needs
 
 returns-5 : tie.Need-returns-5
 returns-5 c =
-    removed-single (c .before .before .before .before .before .before .before .before .before .before .before .before .before .before .before .before .before .before .before .before .before .before .before .before .before .before .before .before .before .before .before .before .before .before .before .pre .0) (c .before .before .before .before .before .before .before .before .before .before .before .before .before .before .before .before .before .before .before .before .before .before .before .before .before .before .before .before .before .before .before .before .before .before .before .pre .1) _ (c .before .before .before .before .before .before .before .before .before .before .before .before .before .before .before .before .before .before .before .before .before .before .before .before .before .before .before .before .before .before .without-value .ensures) (c .before .before .before .before .before .before .before .before .before .before .before .before .before .before .before .before .before .before .before .before .before .before .before .before .before .before .before .before .before .if1 .left) (c .before .before .before .before .before .before .before .before .before .before .before .before .before .before .before .before .before .before .before .before .before .before .before .before .before .before .before .spent .ensures) (c .before .before .before .before .before .before .before .before .before .before .before .before .before .before .before .before .before .before .before .before .before .before .before .before .before .before .if2 .left) (c .before .before .before .before .before .before .before .before .before .before .before .before .before .before .fall-row2 .ensures)
-    (c .before .before .before .before .before .before .before .before .before .before .before .before .before .before .before .before .before .before .store2 .ensures) (c .before .before .before .before .before .before .before .before .before .before .push2 .ensures) _ (c .before .before .before .before .before .before .before .before .before .before .before .before .before .before .before .before .before .before .before .before .before .before .before .single-value .ensures .1) (c .before .before .before .before .before .before .before .before .before .before .before .before .before .before .before .before .before .before .before .before .before .spent2 .ensures) (c .before .before .before .before .before .before .before .before .before .before .before .before .before .before .before .before .before .before .before .before .if4 .left) (c .before .before .before .before .before .before .fall-row3 .ensures) (c .before .before .note-fixed .ensures)
+    let note-fixed = c .before .before .note-fixed in
+    let fall-row3 = c .before .before .before .before .before .before .fall-row3 in
+    let push2 = c .before .before .before .before .before .before .before .before .before .before .push2 in
+    let fall-row2 = c .before .before .before .before .before .before .before .before .before .before .before .before .before .before .fall-row2 in
+    let store2 = c .before .before .before .before .before .before .before .before .before .before .before .before .before .before .before .before .before
+    .before .store2 in
+    let if4 = c .before .before .before .before .before .before .before .before .before .before .before .before .before .before .before .before .before
+    .before .before .before .if4 in
+    let spent2 = c .before .before .before .before .before .before .before .before .before .before .before .before .before .before .before .before .before
+    .before .before .before .before .spent2 in
+    let single-value = c .before .before .before .before .before .before .before .before .before .before .before .before .before .before .before .before
+    .before .before .before .before .before .before .before .single-value in
+    let if2 = c .before .before .before .before .before .before .before .before .before .before .before .before .before .before .before .before .before
+    .before .before .before .before .before .before .before .before .before .if2 in
+    let spent = c .before .before .before .before .before .before .before .before .before .before .before .before .before .before .before .before .before
+    .before .before .before .before .before .before .before .before .before .before .spent in
+    let if1 = c .before .before .before .before .before .before .before .before .before .before .before .before .before .before .before .before .before
+    .before .before .before .before .before .before .before .before .before .before .before .before .if1 in
+    let without-value = c .before .before .before .before .before .before .before .before .before .before .before .before .before .before .before .before
+    .before .before .before .before .before .before .before .before .before .before .before .before .before .before .without-value in
+    let pre = c .before .before .before .before .before .before .before .before .before .before .before .before .before .before .before .before .before
+    .before .before .before .before .before .before .before .before .before .before .before .before .before .before .before .before .before .before
+    .pre in
+    removed-single (pre .0) (pre .1) _ (without-value .ensures) (if1 .left) (spent .ensures) (if2 .left) (fall-row2 .ensures)
+    (store2 .ensures) (push2 .ensures) _ (single-value .ensures .1) (spent2 .ensures) (if4 .left) (fall-row3 .ensures) (note-fixed .ensures)
 
 pub strike-one-spec : {M : Type 1} → statement M
 strike-one-spec =

@@ -21,7 +21,10 @@ same-length c = search needs
 
 returns : tie.Need-returns
 returns c =
-    c .before .before .unspend .ensures ∙ sym (risen-spent _ _ _ _ (c .before .before .before .before .before .wide .ensures .0) (c .before .before .before .before .if1 .taken))
+    let unspend = c .before .before .unspend in
+    let if1 = c .before .before .before .before .if1 in
+    let wide = c .before .before .before .before .before .wide in
+    unspend .ensures ∙ sym (risen-spent _ _ _ _ (wide .ensures .0) (if1 .taken))
 
 next-standing-requires : tie.Need-next-standing-requires
 next-standing-requires c κs = search needs
@@ -31,7 +34,8 @@ same-length-2 c = search needs
 
 returns-2 : tie.Need-returns-2
 returns-2 c =
-    sym (risen-none _ _ _ _ (c .before .before .before .before .before .before .before .pre .0) (omega arith) (c .before .next-standing .ensures) (omega arith))
+    let pre = c .before .before .before .before .before .before .before .pre in
+    sym (risen-none _ _ _ _ (pre .0) (omega arith) (c .before .next-standing .ensures) (omega arith))
 
 mul-cells : tie.Need-mul-cells
 mul-cells c = search needs
@@ -41,7 +45,9 @@ slice-read-cells c = search needs
 
 add-cells : tie.Need-add-cells
 add-cells c =
-    omega (arith, c .before .before .before .before .before .before .before .before .before .pre .3 .fits (c .before .before .before .next-standing .result) (c .before .before .before .next-standing .ensures) (omega arith) (omega arith) (c .before .if3 .taken))
+    let next-standing = c .before .before .before .next-standing in
+    let pre = c .before .before .before .before .before .before .before .before .before .pre in
+    omega (arith, pre .3 .fits (next-standing .result) (next-standing .ensures) (omega arith) (omega arith) (c .before .if3 .taken))
 
 mul-cells-2 : tie.Need-mul-cells-2
 mul-cells-2 c = search needs
@@ -54,7 +60,9 @@ same-length-3 c = search needs
 
 returns-3 : tie.Need-returns-3
 returns-3 c =
-    sym (risen-more _ _ _ _ (c .before .before .before .before .before .before .before .before .before .pre .0) (omega arith) (c .before .before .before .next-standing .ensures) (omega arith) (c .before .if3 .taken))
+    let next-standing = c .before .before .before .next-standing in
+    let pre = c .before .before .before .before .before .before .before .before .before .pre in
+    sym (risen-more _ _ _ _ (pre .0) (omega arith) (next-standing .ensures) (omega arith) (c .before .if3 .taken))
 
 split-requires : tie.Need-split-requires
 split-requires c κs = search needs
@@ -64,7 +72,11 @@ same-length-4 c = search needs
 
 returns-4 : tie.Need-returns-4
 returns-4 c =
-    c .before .before .split .ensures ∙ sym (risen-split _ _ _ _ (c .before .before .before .before .before .before .before .before .before .before .before .before .pre .0) (omega arith) (c .before .before .before .before .before .before .next-standing .ensures) (omega arith) (c .before .before .before .before .if3 .left))
+    let split = c .before .before .split in
+    let if3 = c .before .before .before .before .if3 in
+    let next-standing = c .before .before .before .before .before .before .next-standing in
+    let pre = c .before .before .before .before .before .before .before .before .before .before .before .before .pre in
+    split .ensures ∙ sym (risen-split _ _ _ _ (pre .0) (omega arith) (next-standing .ensures) (omega arith) (if3 .left))
 
 pub raise-spec : {M : Type 1} → statement M
 raise-spec =

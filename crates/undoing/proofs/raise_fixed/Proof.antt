@@ -17,12 +17,10 @@ is-single-requires : tie.Need-is-single-requires
 is-single-requires c κs = search needs
 
 returns : tie.Need-returns
-returns c =
-    upper-undone-free refl (eqb-false _ _ (sym (c .before .is-single .ensures) ∙ not-true _ (c .if1 .taken)))
+returns c = upper-undone-free refl (eqb-false _ _ (sym (c .before .is-single .ensures) ∙ not-true _ (c .if1 .taken)))
 
 single-value-requires : tie.Need-single-value-requires
-single-value-requires c κs =
-    eqb-true _ _ (sym (c .before .is-single .ensures) ∙ not-false _ (c .if1 .left))
+single-value-requires c κs = eqb-true _ _ (sym (c .before .is-single .ensures) ∙ not-false _ (c .if1 .left))
 
 add-raise-row : tie.Need-add-raise-row
 add-raise-row c = search needs
@@ -35,14 +33,19 @@ wide-requires c κs = search needs
 
 raise-row-requires : tie.Need-raise-row-requires
 raise-row-requires c κs =
-    upper-row refl _ (c .before .before .before .single-value .ensures .1) _ (c .wide .ensures) (c .before .before .before .before .before .before .before .before .before .before .pre)
+    let single-value = c .before .before .before .single-value in
+    let pre = c .before .before .before .before .before .before .before .before .before .before .pre in
+    upper-row refl _ (single-value .ensures .1) _ (c .wide .ensures) pre
 
 same-length : tie.Need-same-length
 same-length c = search needs
 
 returns-2 : tie.Need-returns-2
 returns-2 c =
-    upper-undone refl _ (c .before .before .before .before .before .before .single-value .ensures .1) (c .before .before .before .wide .ensures) (c .before .before .raise-row .ensures)
+    let raise-row = c .before .before .raise-row in
+    let wide = c .before .before .before .wide in
+    let single-value = c .before .before .before .before .before .before .single-value in
+    upper-undone refl _ (single-value .ensures .1) (wide .ensures) (raise-row .ensures)
 
 pub raise-fixed-spec : {M : Type 1} → statement M
 raise-fixed-spec =

@@ -29,7 +29,9 @@ cast-v c = search needs
 
 raise-fixed-requires : tie.Need-raise-fixed-requires
 raise-fixed-requires c κs =
-    strike-upper (c .before .before .before .before .before .before .before .before .pre) (c .before .before .before .wide .ensures) refl
+    let wide = c .before .before .before .wide in
+    let pre = c .before .before .before .before .before .before .before .before .pre in
+    strike-upper pre (wide .ensures) refl
 
 add-wide : tie.Need-add-wide
 add-wide c = search needs
@@ -42,11 +44,17 @@ wide-requires-2 c κs = search needs
 
 raise-row-requires : tie.Need-raise-row-requires
 raise-row-requires c κs =
-    strike-row (c .before .before .before .before .before .before .before .before .before .before .before .before .before .before .pre) (c .before .before .before .before .before .before .before .before .before .wide .ensures) refl (c .before .before .before .before .before .raise-fixed .kept .1 .0) (c .before .before .before .before .before .raise-fixed .ensures) (c .wide2 .ensures)
+    let raise-fixed = c .before .before .before .before .before .raise-fixed in
+    let wide = c .before .before .before .before .before .before .before .before .before .wide in
+    let pre = c .before .before .before .before .before .before .before .before .before .before .before .before .before .before .pre in
+    strike-row pre (wide .ensures) refl (raise-fixed .kept .1 .0) (raise-fixed .ensures) (c .wide2 .ensures)
 
 put-in-requires : tie.Need-put-in-requires
 put-in-requires c κs =
-    strike-put (c .before .before .before .before .before .before .before .before .before .before .before .before .before .before .before .before .before .before .pre) (c .before .before .before .before .before .before .before .before .before .before .before .before .before .wide .ensures) refl
+    let wide = c .before .before .before .before .before .before .before .before .before .before .before .before .before .wide in
+    let pre = c .before .before .before .before .before .before .before .before .before .before .before .before .before .before .before .before .before
+    .before .pre in
+    strike-put pre (wide .ensures) refl
 
 same-length : tie.Need-same-length
 same-length c = search needs
@@ -56,7 +64,14 @@ same-length-2 c = search needs
 
 returns : tie.Need-returns
 returns c =
-    strike-undone (c .before .before .before .before .before .before .before .before .before .before .before .before .before .before .before .before .before .before .before .before .before .pre) (c .before .before .before .before .before .before .before .before .before .before .before .before .before .before .before .before .wide .ensures) refl (c .before .before .before .before .before .before .before .before .before .before .before .before .raise-fixed .kept .1 .0) (c .before .before .before .before .before .before .before .before .before .before .before .before .raise-fixed .ensures) (c .before .before .before .before .before .before .before .wide2 .ensures) (c .before .before .before .before .before .before .raise-row .ensures) (c .before .before .put-in .ensures)
+    let put-in = c .before .before .put-in in
+    let raise-row = c .before .before .before .before .before .before .raise-row in
+    let wide2 = c .before .before .before .before .before .before .before .wide2 in
+    let raise-fixed = c .before .before .before .before .before .before .before .before .before .before .before .before .raise-fixed in
+    let wide = c .before .before .before .before .before .before .before .before .before .before .before .before .before .before .before .before .wide in
+    let pre = c .before .before .before .before .before .before .before .before .before .before .before .before .before .before .before .before .before
+    .before .before .before .before .pre in
+    strike-undone pre (wide .ensures) refl (raise-fixed .kept .1 .0) (raise-fixed .ensures) (wide2 .ensures) (raise-row .ensures) (put-in .ensures)
 
 pub take-back-spec : {M : Type 1} → statement M
 take-back-spec =

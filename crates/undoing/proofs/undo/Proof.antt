@@ -13,7 +13,8 @@ abbrev μ-loop : tie.MeasureT-loop
 
 loop-holds : tie.Need-loop-holds Inv-loop μ-loop
 loop-holds c =
-    putting-start _ _ _ _ _ _ _ (c .before .before .before .pre .order)
+    let pre = c .before .before .before .pre in
+    putting-start _ _ _ _ _ _ _ (pre .order)
 
 sub-i : tie.Need-sub-i Inv-loop μ-loop
 sub-i c =
@@ -21,7 +22,10 @@ sub-i c =
 
 take-back-requires : tie.Need-take-back-requires Inv-loop μ-loop
 take-back-requires c κs =
-    putting-undoing (c .before .before .before .loop .inv) (c .before .before .loop-test .taken) (c .before .before .before .before .before .before .before .pre)
+    let loop-test = c .before .before .loop-test in
+    let loop = c .before .before .before .loop in
+    let pre = c .before .before .before .before .before .before .before .pre in
+    putting-undoing (loop .inv) (loop-test .taken) pre
 
 loop-less : tie.Need-loop-less Inv-loop μ-loop
 loop-less c =
@@ -29,19 +33,19 @@ loop-less c =
 
 loop-again : tie.Need-loop-again Inv-loop μ-loop
 loop-again c =
-    putting-step (c .before .before .before .before .before .before .before .before .loop .inv) (c .before .before .before .before .before .before .before .loop-test .taken) (c .before .before .before .before .take-back .kept .0) (c .before .before .before .before .take-back .kept .1 .0) (c .before .before .before .before .take-back .ensures)
+    let take-back = c .before .before .before .before .take-back in
+    let loop-test = c .before .before .before .before .before .before .before .loop-test in
+    let loop = c .before .before .before .before .before .before .before .before .loop in
+    putting-step (loop .inv) (loop-test .taken) (take-back .kept .0) (take-back .kept .1 .0) (take-back .ensures)
 
 same-length : tie.Need-same-length Inv-loop μ-loop
-same-length c =
-    c .before .loop .inv .masks-size
+same-length c = c .before .loop .inv .masks-size
 
 same-length-2 : tie.Need-same-length-2 Inv-loop μ-loop
-same-length-2 c =
-    c .before .loop .inv .cells-size
+same-length-2 c = c .before .loop .inv .cells-size
 
 returns : tie.Need-returns Inv-loop μ-loop
-returns c =
-    putting-end (c .before .loop .inv) (c .loop-test .left)
+returns c = putting-end (c .before .loop .inv) (c .loop-test .left)
 
 pub undo-spec : {M : Type 1} → statement M
 undo-spec =
