@@ -1,3 +1,4 @@
 pub mod BuiltLaws
 pub mod FellLaws
 pub mod MaskTestLaws
+pub mod TurnLaws

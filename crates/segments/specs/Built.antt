@@ -1,16 +1,34 @@
 -- What `build` answers, and each of its visits of a prefix, from the last to the first.
+--   Straight              the line's step to i and the one after it are the same
+--   PreviousTurn          the last prefix before t after which the line goes on by another step, or 0
+--   PreviousCorner        the last corner before t, or 0
 --   VisitAnswer, Visit    a visit of t: the corner t is broken, or the corners from t on are done
 --   BuildAnswer, Built    true: the cells hold the segments of each line that has these rises; false: one of its corners is broken
 -- Assumes nothing.
 use mathlib.Core.Path.{_≡_}
 use mathlib.Core.Bool.{Bool, true, false}
 use mathlib.Core.List.{List}
-use Prim.Native.Nat.{ℕ, _-_}
-use lib.ListN.{length}
+use Prim.Native.Nat.{ℕ, _+_, _-_, _<_}
+use lib.ListN.{length, getD}
+use Rattle.domains.specs.Mask.{testBit}
 use Rattle.segments_model.specs.Build.{Done}
 use Rattle.segments_model.specs.Lines.{Rising, Broken, BrokenAt, Segments}
 use Rattle.segments.specs.declared.Visited.{Visited}
 use Rattle.segments.specs.declared.Visited.the-variants.{Lacking, Onward}
+
+abbrev pub Straight : List ℕ → ℕ → ℕ → Type 0
+Straight rises v i = testBit (getD rises i 0) v ≡ testBit (getD rises (i + 1) 0) v
+
+pub record PreviousTurn (rises : List ℕ) (v t s : ℕ) : Type 0 where
+  pub before : s < t
+  pub turns : 0 < s → Straight rises v s → ⊥
+  pub straight : (i : ℕ) → s < i → i < t → Straight rises v i
+
+-- C tells the corners
+pub record PreviousCorner (C : ℕ → Bool) (t s : ℕ) : Type 0 where
+  pub before : s < t
+  pub corner : 0 < s → C s ≡ true
+  pub none : (i : ℕ) → s < i → i < t → C i ≡ false
 
 -- C tells the corners, g is the gain and h the loss
 abbrev pub VisitAnswer : ℕ → (ℕ → Bool) → (ℕ → ℕ) → (ℕ → ℕ) → ℕ → List ℕ → Visited → Type 0

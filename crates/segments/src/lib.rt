@@ -14,7 +14,7 @@ ghost use Rattle.segments_model.specs.Lines.{lineOf, cornerOf, tick};
 ghost use Rattle.segments_model.specs.Part.{part, over, Lent};
 ghost use Rattle.segments_model.specs.Raise.{risen, Raisable};
 ghost use Rattle.segments_model.specs.Search.{Gap, Next, Previous};
-ghost use Rattle.segments.specs.Built.{Visit, Built};
+ghost use Rattle.segments.specs.Built.{PreviousTurn, PreviousCorner, Visit, Built};
 ghost use Rattle.segments.specs.Fell.{Fell};
 
 // What a fall of the slack meets: no corner loses its last slack; a corner has none to lose; the last corner that loses its last slack. The last
@@ -32,10 +32,10 @@ enum Visited {
 }
 
 struct Totals {
-    // the line at n
-    risen: usize,
-    // how many of the n slots count for the kind
-    counted: usize,
+    // the line at a prefix
+    risen: u32,
+    // how many of the slots before it count for the kind
+    counted: u32,
 }
 
 // Fills the cells of one value from its rises and the masks. False where a corner is broken.
@@ -237,12 +237,13 @@ fn blank(cells: &mut [u16], n: usize)
     }
 }
 
+// The line and the count at n.
 fn count_all(rises: &[u32], masks: &[u32], n: usize, v: u32, lower: bool) -> Totals
-    requires { ⌜ (n < length (now rises)) × (n ≤ length (now masks)) × (v < 32) ⌝ }
+    requires { ⌜ (n < length (now rises)) × (n ≤ length (now masks)) × (n < 65536) × (v < 32) ⌝ }
     ensures { λ r. ⌜ Counts lower (now (rises .entry)) (now (masks .entry)) v n (r .risen) (r .counted) ⌝ }
 {
-    let mut risen: usize = 0;
-    let mut counted: usize = 0;
+    let mut risen: u32 = 0;
+    let mut counted: u32 = 0;
     let mut t: usize = 0;
     while t < n {
         counted += tick(masks, t, v, lower);
@@ -255,6 +256,34 @@ fn count_all(rises: &[u32], masks: &[u32], n: usize, v: u32, lower: bool) -> Tot
     }
 }
 
+// The line and the count at s, from those at t.
+fn count_back(
+    rises: &[u32],
+    masks: &[u32],
+    v: u32,
+    lower: bool,
+    s: usize,
+    t: usize,
+    risen: u32,
+    counted: u32,
+) -> Totals
+    requires { ⌜ (s ≤ t) × (t < length (now rises)) × (t ≤ length (now masks)) × (v < 32) × Counts lower (now rises) (now masks) v t risen counted ⌝ }
+    ensures { λ r. ⌜ Counts lower (now (rises .entry)) (now (masks .entry)) v s (r .risen) (r .counted) ⌝ }
+{
+    let mut r = risen;
+    let mut k = counted;
+    let mut i = t;
+    while s < i {
+        r -= rise(rises, i, v);
+        i -= 1;
+        k -= tick(masks, i, v, lower);
+    }
+    Totals {
+        risen: r,
+        counted: k,
+    }
+}
+
 // Takes the corners from the last to the first, with the line and the count at n, into cells that are empty.
 fn fill(
     cells: &mut [u16],
@@ -263,8 +292,8 @@ fn fill(
     n: usize,
     v: u32,
     lower: bool,
-    risen: usize,
-    counted: usize,
+    risen: u32,
+    counted: u32,
 ) -> bool
     requires { ⌜ (n < length (now cells)) × (n < length (now rises)) × (n ≤ length (now masks)) × (n < 65536) × (v < 32)
         × Counts lower (now rises) (now masks) v n risen counted × Gap (now cells) 0 (n + 1) ⌝ }
@@ -282,11 +311,43 @@ fn fill(
             return false;
         };
         next = first;
-        r -= rise(rises, t, v);
-        t -= 1;
-        k -= tick(masks, t, v, lower);
+        let s = previous_corner(rises, n, v, lower, t);
+        let before = count_back(rises, masks, v, lower, s, t, r, k);
+        r = before.risen;
+        k = before.counted;
+        t = s;
     }
     true
+}
+
+// The last corner before t, or 0.
+fn previous_corner(rises: &[u32], n: usize, v: u32, lower: bool, t: usize) -> usize
+    requires { ⌜ (0 < t) × (t ≤ n) × (n < length (now rises)) × (v < 32) ⌝ }
+    ensures { λ r. ⌜ PreviousCorner (cornerOf lower n (lineOf (now (rises .entry)) v)) t r ⌝ }
+{
+    let mut i = previous_turn(rises, v, t);
+    while 0 < i {
+        if rise(rises, i, v) == one(lower) {
+            return i;
+        }
+        i = previous_turn(rises, v, i);
+    }
+    i
+}
+
+// The last prefix before t where the line turns, for either kind, or 0.
+fn previous_turn(rises: &[u32], v: u32, t: usize) -> usize
+    requires { ⌜ (0 < t) × (t < length (now rises)) × (v < 32) ⌝ }
+    ensures { λ r. ⌜ PreviousTurn (now (rises .entry)) v t r ⌝ }
+{
+    let mut i = t - 1;
+    while 0 < i {
+        if rise(rises, i, v) != rise(rises, i + 1, v) {
+            return i;
+        }
+        i -= 1;
+    }
+    i
 }
 
 // Takes the prefix t, where those after it are done and `next` is the first right end.
@@ -352,7 +413,7 @@ fn corner_at(rises: &[u32], n: usize, v: u32, lower: bool, t: usize) -> bool
 }
 
 // By how much the line grows at t.
-fn rise(rises: &[u32], t: usize, v: u32) -> usize
+fn rise(rises: &[u32], t: usize, v: u32) -> u32
     requires { ⌜ (t < length (now rises)) × (v < 32) ⌝ }
     ensures { λ r. ⌜ r ≡ testBit (getD (now (rises .entry)) t 0) v ⌝ }
 {
@@ -360,7 +421,7 @@ fn rise(rises: &[u32], t: usize, v: u32) -> usize
 }
 
 // What the slot counts for the kind: whether it has v, or is fixed to v.
-fn tick(masks: &[u32], slot: usize, v: u32, lower: bool) -> usize
+fn tick(masks: &[u32], slot: usize, v: u32, lower: bool) -> u32
     requires { ⌜ (slot < length (now masks)) × (v < 32) ⌝ }
     ensures { λ r. ⌜ r ≡ tick lower (getD (now (masks .entry)) slot 0) v ⌝ }
 {
@@ -373,15 +434,13 @@ fn tick(masks: &[u32], slot: usize, v: u32, lower: bool) -> usize
 
 // Whether v is the only value of m.
 fn is_fixed(m: u32, v: u32) -> bool
+    requires { ⌜ v < 32 ⌝ }
     ensures { λ r. ⌜ r ≡ eqb m (2 ^ v) ⌝ }
 {
-    if !domains::is_single(m) {
-        return false;
-    }
-    domains::single_value(m) == v
+    m == 1 << v
 }
 
-fn one(b: bool) -> usize
+fn one(b: bool) -> u32
     ensures { λ r. ⌜ r ≡ bit b ⌝ }
 {
     if b {
@@ -390,13 +449,13 @@ fn one(b: bool) -> usize
     0
 }
 
-fn choose(b: bool, x: usize, y: usize) -> usize
+fn choose(b: bool, x: u32, y: u32) -> usize
     ensures { λ r. ⌜ r ≡ cond b x y ⌝ }
 {
     if b {
-        return x;
+        return x as usize;
     }
-    y
+    y as usize
 }
 
 fn wide(x: u16) -> usize

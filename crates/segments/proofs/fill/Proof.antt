@@ -1,5 +1,5 @@
 -- `segments::fill` meets its contract. The invariant: t is at most n, the list is as long as it was, the counts stand at t (`Counts`), and the
--- corners after t are done (`DoneAfter`). The measure is t. One turn: `turn-onward` and `counts-last`; it ends with `turn-broken` or
+-- corners after t are done (`DoneAfter`). The measure is t. One turn: `turn-onward` and `done-back`; it ends with `turn-broken` or
 -- `built-all`. Assumes nothing.
 use mathlib.Core.Path.{_≡_, refl}
 use Prim.Native.Nat.{_≤_}
@@ -8,8 +8,9 @@ use borrow.Author.Needs.{needs}
 use lib.ListN.{length}
 use Rattle.segments_model.specs.Build.{Counts}
 use Rattle.segments_model.proofs.BuildLaws.{done-none}
-use Rattle.segments_model.proofs.CountsLaws.{choice-bound, risen-has, counted-has, counts-last}
+use Rattle.segments_model.proofs.CountsLaws.{choice-bound}
 use Rattle.segments.proofs.BuiltLaws.{DoneAfter, turn-broken, turn-onward, built-broken, built-all}
+use Rattle.segments.proofs.TurnLaws.{done-back}
 use Rattle.segments.proofs.fill.Statement.{statement}
 use Rattle.segments.proofs.fill.Tie as tie
 
@@ -62,44 +63,38 @@ returns c =
     (turn-broken _ (turn .loop .inv .2) _ _ _ (turn .loop .inv .3) (chosen .before .before .corner-at .ensures) (chosen .before .choose .ensures)
     (chosen .choose2 .ensures) (visited .visit .ensures) (c .enum-told .given .1))
 
-rise-requires : tie.Need-rise-requires Inv-loop μ-loop
-rise-requires c κs =
-    let turn = c .before .before .before .before .before .before .before .before .before .before .before in
-    omega (arith, turn .loop .inv .0, turn .before .before .before .before .pre .1, turn .before .before .before .before .pre .4)
-
-sub-r : tie.Need-sub-r Inv-loop μ-loop
-sub-r c =
-    let test = c .before .before .before .before .before .before .before .before .before .before .before in
-    risen-has (test .before .loop .inv .2) (test .loop-test .taken) (c .rise .ensures)
-
-sub-t : tie.Need-sub-t Inv-loop μ-loop
-sub-t c = omega (arith, c .before .before .before .before .before .before .before .before .before .before .before .loop-test .taken)
-
-tick-requires : tie.Need-tick-requires Inv-loop μ-loop
-tick-requires c κs =
-    let test = c .before .before .before .before .before .before .before .before .before .before .before in
+previous-corner-requires : tie.Need-previous-corner-requires Inv-loop μ-loop
+previous-corner-requires c κs =
+    let test = c .before .before .before .before .before .before .before .before .before .before in
     let turn = test .before in
-    omega (arith, turn .loop .inv .0, test .loop-test .taken, turn .before .before .before .before .pre .2, turn .before .before .before .before .pre .4)
+    let start = turn .before .before .before .before in
+    omega (arith, test .loop-test .taken, turn .loop .inv .0, start .pre .1, start .pre .4)
 
-sub-k : tie.Need-sub-k Inv-loop μ-loop
-sub-k c =
-    let test = c .before .before .before .before .before .before .before .before .before .before .before .before in
-    counted-has (test .before .loop .inv .2) (test .loop-test .taken) (c .tick .ensures)
+count-back-requires : tie.Need-count-back-requires Inv-loop μ-loop
+count-back-requires c κs =
+    let turn = c .before .before .before .before .before .before .before .before .before .before .before .before in
+    let start = turn .before .before .before .before in (
+      omega (arith, c .previous-corner .ensures .before),
+      omega (arith, turn .loop .inv .0, start .pre .1),
+      omega (arith, turn .loop .inv .0, start .pre .2),
+      start .pre .4,
+      turn .loop .inv .2,
+    )
 
 loop-less : tie.Need-loop-less Inv-loop μ-loop
-loop-less c = omega (arith, c .before .before .before .before .before .before .before .before .before .before .before .before .loop-test .taken)
+loop-less c = omega (arith, c .before .previous-corner .ensures .before)
 
 loop-again : tie.Need-loop-again Inv-loop μ-loop
 loop-again c =
     let visited = c .before .before .before .before .before .before .before in
     let chosen = visited .before .before in
     let turn = chosen .before .before .before .before in
-    let 0<t = chosen .before .before .before .loop-test .taken in (
-      omega (arith, turn .loop .inv .0),
+    let found = c .before .previous-corner .ensures in (
+      omega (arith, found .before, turn .loop .inv .0),
       omega (arith, turn .loop .inv .1, visited .visit .ensures .size),
-      counts-last (turn .loop .inv .2) 0<t (c .before .rise .ensures) (c .tick .ensures),
-      turn-onward _ (turn .loop .inv .2) _ _ _ (turn .loop .inv .3) (chosen .before .before .corner-at .ensures) (chosen .before .choose .ensures)
-          (chosen .choose2 .ensures) (visited .visit .ensures) (c .before .before .before .first .given .1),
+      c .count-back .ensures,
+      done-back (turn-onward _ (turn .loop .inv .2) _ _ _ (turn .loop .inv .3) (chosen .before .before .corner-at .ensures) (chosen .before .choose .ensures)
+          (chosen .choose2 .ensures) (visited .visit .ensures) (c .before .before .before .first .given .1)) found,
     )
 
 same-length-2 : tie.Need-same-length-2 Inv-loop μ-loop
@@ -124,11 +119,8 @@ fill-spec =
     enum-told
     same-length
     returns
-    rise-requires
-    sub-r
-    sub-t
-    tick-requires
-    sub-k
+    previous-corner-requires
+    count-back-requires
     loop-less
     loop-again
     same-length-2
