@@ -1,12 +1,18 @@
 -- The laws of `specs/Answer.antt`. No contract cites this file. `SumsInv`: the invariant of a loop that sums a column, `sums-start`,
--- `sums-more` and `sums-done` its start, turn and end; `outcome-same`, `outcome-changed`, `outcome-crossed`: what an arm of a match
+-- `sums-more` and `sums-done` its start, turn and end; `CrossInv`, `cross-start`, `cross-more` and `cross-done`: the same of the loop that looks for a
+-- crossed entry; `cross-none`: what the arm knows where it found none; `outcome-same`, `outcome-changed`, `outcome-crossed`: what an arm of a match
 -- on the answer knows; `front-answered`: from the first entries of two lists to the whole.
 -- Assumes nothing.
 use mathlib.Core.Path.{_≡_, sym, subst}
 use mathlib.Core.Bool.{Bool, true, false}
 use mathlib.Core.List.{List, _++_}
+use mathlib.Core.Logic.{dite}
 use Prim.Native.Nat.{ℕ, _+_, _-_, _*_, _≤_, _<_, max}
+use native.Mathlib.Decide.{ℕ-discrete}
 use native.Mathlib.Omega.{arith}
+use borrow.Author.Count.{below-more}
+use borrow.Author.Tests.{lt-ltb, le-ltb}
+use lib.Dec.{ltb}
 use lib.ListN.{length, take, drop}
 use lib.Seq.{take-at}
 use Rattle.closing_model.specs.Table.{Table, view, size, place, Within}
@@ -15,7 +21,7 @@ use Rattle.closing_model.specs.Closing.{closing}
 use Rattle.closing_model.proofs.SumLaws.{column-sum-none, column-sum-more, widest-none, widest-more}
 use Rattle.bounds.specs.declared.across.Sweep.{Sweep}
 use Rattle.bounds.specs.declared.across.Sweep.the-variants.{Same, Changed, Crossed}
-use Rattle.bounds.specs.Answer.{SumsMatch, Outcome, answered}
+use Rattle.bounds.specs.Answer.{SumsMatch, CrossedIn, CrossAnswer, Outcome, answered}
 
 -- ---- SumsMatch
 -- the invariant of the loop over the values: p is the place of value v, and the sums and the gap are those of the first v
@@ -65,6 +71,33 @@ sums-done {n} {k} {t} T {sl} {su} {gap} {v} k≤v inv =
       gap-fits = inv .gap-fits;
       lowers-fit = rw whole at (inv .lowers-fit);
     }
+
+-- ---- CrossAnswer
+-- the invariant of the loop over the prefixes: gap is what the uppers of the first t lack to their lowers
+pub record CrossInv (base n gap t : ℕ) (T : Table) : Type 0 where
+  pub upto : t ≤ n + 1
+  pub near : (i : ℕ) → i < t → T .lower (base + i) ≤ T .upper (base + i) + gap
+  pub found : 0 < gap → CrossedIn base n T
+
+pub cross-start : (base n : ℕ) (T : Table) → CrossInv base n 0 0 T
+cross-start base n T = record { upto = omega arith; near = λ i i<0. absurd (omega arith); found = λ 0<0. absurd (omega arith) }
+
+pub cross-more : (T : Table) {base n gap t a b d gap′ : ℕ} → CrossInv base n gap t T → t ≤ n → a ≡ T .lower (base + t) → b ≡ T .upper (base + t)
+    → d ≡ a - b → gap′ ≡ max gap d → CrossInv base n gap′ (t + 1) T
+cross-more T {base} {gap = gap} {t = t} {gap′ = gap′} inv t≤n a-is b-is d-is gap-is =
+    record {
+      upto = omega arith;
+      near = below-more (λ i. T .lower (base + i) ≤ T .upper (base + i) + gap′) t (λ i i<t. omega (arith, inv .near i i<t)) (omega arith);
+      found = λ 0<gap′. dite (ℕ-discrete gap 0) (λ none. record { prefix = t; inside = t≤n; crossed = omega arith }) (λ some. inv .found (omega arith));
+    }
+
+pub cross-done : (base n gap t : ℕ) (T : Table) → n < t → CrossInv base n gap t T → CrossAnswer base n T (ltb 0 gap)
+cross-done base n gap t T n<t inv =
+    dite (ℕ-discrete gap 0) (λ none. rw (le-ltb 0 gap (omega arith)) (λ i i≤n. omega (arith, inv .near i (omega arith))))
+    (λ some. rw (lt-ltb 0 gap (omega arith)) (inv .found (omega arith)))
+
+pub cross-none : (base n : ℕ) (T : Table) {r : Bool} → CrossAnswer base n T r → r ≡ false → (t : ℕ) → t < n + 1 → T .lower (base + t) ≤ T .upper (base + t)
+cross-none base n T answer e = subst (λ (b : Bool). CrossAnswer base n T b) e answer
 
 -- ---- Outcome
 pub outcome-same : {edge : ℕ} {P : Table → Type 0} {L U L′ U′ : List ℕ} {r : Sweep} → r ≡ Same → Outcome edge P L U L′ U′ r

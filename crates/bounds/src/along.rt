@@ -1,5 +1,6 @@
 // The rules along one value's line: between a prefix and the next, forward and back.
-// The contracts cite `Did`, `Passed`, `Decides`, `Stairs`, `Fwds`, `Bwds` and `Line` of closing_model's specs/Sweep.antt.
+// The contracts cite `CrossAnswer` of specs/Answer.antt, and `Did`, `Passed`, `Decides`, `Stairs`, `Fwds`, `Bwds` and `Line` of closing_model's
+// specs/Sweep.antt.
 use super::store::at;
 use super::store::entry;
 use super::store::greater16;
@@ -11,6 +12,7 @@ ghost use Prim.Native.Nat.{_+_, _<_};
 ghost use lib.ListN.{length, getD};
 ghost use Rattle.closing_model.specs.Table.{view};
 ghost use Rattle.closing_model.specs.Sweep.{Did, Passed, Decides, Stairs, Fwds, Bwds, Line};
+ghost use Rattle.bounds.specs.Answer.{CrossAnswer};
 
 // Whether each entry of a line is the one before or one more: by the steepest rise and the steepest fall, without a branch in the loop.
 fn stairs(s: &[u16], base: usize, n: usize) -> bool
@@ -88,4 +90,20 @@ pub fn line(lowers: &mut [u16], uppers: &mut [u16], base: usize, n: usize) -> bo
     forward_pass(lowers, uppers, base, n);
     backward_pass(lowers, uppers, base, n);
     true
+}
+
+// Whether an entry of one value's line is crossed, by the widest gap from an upper to its lower, without a branch in the loop.
+pub fn crosses(lowers: &[u16], uppers: &[u16], base: usize, n: usize) -> bool
+    requires { ⌜ (base + n < length (now lowers)) × (base + n < length (now uppers)) ⌝ }
+    ensures { λ r. ⌜ CrossAnswer base n (view (now (lowers .entry)) (now (uppers .entry))) r ⌝ }
+{
+    let mut gap = 0;
+    let mut t = 0;
+    while t <= n {
+        let a = entry(lowers, base + t);
+        let b = entry(uppers, base + t);
+        gap = greater16(gap, less16(a, b));
+        t += 1;
+    }
+    0 < gap
 }

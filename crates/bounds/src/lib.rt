@@ -7,6 +7,7 @@ pub mod store;
 
 use across::Sweep;
 use across::columns;
+use along::crosses;
 use along::line;
 use store::crossed;
 ghost use mathlib.Core.Path.{_≡_};
@@ -30,12 +31,14 @@ pub fn close_table(lowers: &mut [u16], uppers: &mut [u16], n: usize, k: usize) -
             if line(lowers, uppers, base, n) {
                 changed = true;
             }
-            let mut t = 0;
-            while t <= n {
-                if crossed(lowers, uppers, base + t) {
-                    break 'sweeps;
+            if crosses(lowers, uppers, base, n) {
+                let mut t = 0;
+                while t <= n {
+                    if crossed(lowers, uppers, base + t) {
+                        break 'sweeps;
+                    }
+                    t += 1;
                 }
-                t += 1;
             }
             base += n + 1;
             v += 1;

@@ -16,7 +16,7 @@ use Rattle.closing_model.proofs.PlaceLaws.{line-below}
 use Rattle.closing_model.proofs.RanLaws.{or-when, or-else}
 use Rattle.closing_model.proofs.SweepLaws.{Uncrossed, LinesInv, SweepsInv, lines-start, lines-turn, sweeps-start, sweeps-turn, sweep-ran, sweeps-loosest, sweeps-crossed, sweeps-none, uncrossed-more}
 use Rattle.closing_model.proofs.ClosingLaws.{loosest-closing, none-closing}
-use Rattle.bounds.proofs.AnswerLaws.{outcome-same, outcome-changed, outcome-crossed}
+use Rattle.bounds.proofs.AnswerLaws.{cross-none, outcome-same, outcome-changed, outcome-crossed}
 use Rattle.bounds.proofs.close_table.Statement.{statement}
 use Rattle.bounds.proofs.close_table.Tie as tie
 
@@ -53,49 +53,70 @@ line-requires : tie.Need-line-requires Inv-loop2 μ-loop2 Inv-loop μ-loop Inv-s
 line-requires c κs =
     omega (arith, line-inside (c .before .before), c .before .before .before .before .before .before .before .pre, c .before .before .before .loop .inv .ran, c .before .before .before .before .sweeps .inv)
 
+crosses-requires : tie.Need-crosses-requires Inv-loop2 μ-loop2 Inv-loop μ-loop Inv-sweeps μ-sweeps
+crosses-requires c κs =
+    let turn = c .before .before .before .before .before .before .before .before .before .before .before in
+    omega (arith, line-inside (c .before .before .before .before .before .before .before .before .before .before), turn .before .before .before .before .pre, turn .loop .inv .ran, turn .before .sweeps .inv, c .before .before .before .before .before .before .before .line .kept)
+
 loop2-holds : tie.Need-loop2-holds Inv-loop2 μ-loop2 Inv-loop μ-loop Inv-sweeps μ-sweeps
 loop2-holds c = (omega arith, λ i i<0. absurd (omega arith))
 
 add-crossed : tie.Need-add-crossed Inv-loop2 μ-loop2 Inv-loop μ-loop Inv-sweeps μ-sweeps
 add-crossed c =
-    omega (arith, line-inside (c .before .before .before .before .before .before .before .before .before .before .before .before), c .before .before .before .before .before .before .before .before .before .before .before .before .before .before .before .before .before .pre, c .before .before .before .before .before .before .before .before .before .before .before .before .before .loop .inv .ran, c .before .before .before .before .before .before .before .before .before .before .before .before .before .before .sweeps .inv)
+    let turn = c .before .before .before .before .before .before .before .before .before .before .before .before .before .before .before .before .before in
+    omega (arith, line-inside (c .before .before .before .before .before .before .before .before .before .before .before .before .before .before .before .before), turn .before .before .before .before .pre, turn .loop .inv .ran, turn .before .sweeps .inv)
 
 crossed-requires : tie.Need-crossed-requires Inv-loop2 μ-loop2 Inv-loop μ-loop Inv-sweeps μ-sweeps
 crossed-requires c κs =
-    omega (arith, line-inside (c .before .before .before .before .before .before .before .before .before .before .before .before), c .before .before .before .before .before .before .before .before .before .before .before .before .before .before .before .before .before .pre, c .before .before .before .before .before .before .before .before .before .before .before .before .before .loop .inv .ran, c .before .before .before .before .before .before .before .before .before .before .before .before .before .before .sweeps .inv, c .before .before .before .before .before .before .before .before .before .line .kept, c .before .before .loop2-test)
+    let turn = c .before .before .before .before .before .before .before .before .before .before .before .before .before .before .before .before .before in
+    omega (arith, line-inside (c .before .before .before .before .before .before .before .before .before .before .before .before .before .before .before .before), turn .before .before .before .before .pre, turn .loop .inv .ran, turn .before .sweeps .inv, c .before .before .before .before .before .before .before .before .before .before .before .before .before .line .kept, c .before .before .loop2-test)
 
 add-t : tie.Need-add-t Inv-loop2 μ-loop2 Inv-loop μ-loop Inv-sweeps μ-sweeps
-add-t c =
-    omega (arith, c .before .before .before .before .before .before .before .before .before .before .before .before .before .before .before .before .before .before .before .pre, c .before .before .before .before .loop2-test)
+add-t c = omega (arith, c .before .before .before .before .before .before .before .before .before .before .before .before .before .before .before .before .before .before .before .before .before .before .before .pre, c .before .before .before .before .loop2-test)
 
 loop2-less : tie.Need-loop2-less Inv-loop2 μ-loop2 Inv-loop μ-loop Inv-sweeps μ-sweeps
 loop2-less c = omega (arith, c .before .before .before .before .loop2-test)
 
 loop2-again : tie.Need-loop2-again Inv-loop2 μ-loop2 Inv-loop μ-loop Inv-sweeps μ-sweeps
 loop2-again c =
-    (omega (arith, c .before .before .before .before .loop2-test), uncrossed-more (c .before .before .before .before .before .before .before .before .before .before .before .before .before .before .before .loop .base) (c .before .before .before .before .before .loop2 .t) (view (c .before .before .before .before .before .before .before .before .before .before .before .line .last .0) (c .before .before .before .before .before .before .before .before .before .before .before .line .last .1 .0)) (c .before .before .before .before .before .loop2 .inv .1) (sym (c .before .crossed .ensures) ∙ c .if2 .left))
+    let line = c .before .before .before .before .before .before .before .before .before .before .before .before .before .before .before .line in (
+      omega (arith, c .before .before .before .before .loop2-test),
+      uncrossed-more (c .before .before .before .before .before .before .before .before .before .before .before .before .before .before .before .before .before .before .before .loop .base) (c .before .before .before .before .before .loop2 .t) (view (line .last .0) (line .last .1 .0)) (c .before .before .before .before .before .loop2 .inv .1)
+          (sym (c .before .crossed .ensures) ∙ c .if3 .left),
+    )
+
+-- the line is uncrossed where the test and the loop in its arm meet
+uncrossed : (c : tie.Joined2 Inv-loop2 μ-loop2 Inv-loop μ-loop Inv-sweeps μ-sweeps)
+    → Uncrossed (c .before .before .before .before .before .before .before .before .before .before .before .before .before .loop .base) (c .before .before .before .before .before .before .before .before .before .before .before .before .before .before .before .before .before .args .n + 1) (view (c .before .before .before .before .before .before .before .before .before .line .last .0) (c .before .before .before .before .before .before .before .before .before .line .last .1 .0))
+uncrossed c =
+    ⊎-elim
+    (λ w.
+    let whole : w .1 .t ≡ c .before .before .before .before .before .before .before .before .before .before .before .before .before .before .before .before .before .args .n + 1 = omega (arith, w .2 .left, w .1 .inv .0) in
+    rw whole at (w .1 .inv .1))
+    (λ w. cross-none (c .before .before .before .before .before .before .before .before .before .before .before .before .before .loop .base) (c .before .before .before .before .before .before .before .before .before .before .before .before .before .before .before .before .before .args .n) (view (c .before .before .before .before .before .before .before .before .before .line .last .0) (c .before .before .before .before .before .before .before .before .before .line .last .1 .0)) (c .before .crosses .ensures) (w .left))
+    (c .if2 .came)
 
 add-base : tie.Need-add-base Inv-loop2 μ-loop2 Inv-loop μ-loop Inv-sweeps μ-sweeps
-add-base c =
-    omega (arith, c .before .before .before .before .before .before .before .before .before .before .before .before .before .before .before .pre)
+add-base c = omega (arith, c .before .before .before .before .before .before .before .before .before .before .before .before .before .before .before .before .before .pre)
 
 add-base-2 : tie.Need-add-base-2 Inv-loop2 μ-loop2 Inv-loop μ-loop Inv-sweeps μ-sweeps
 add-base-2 c =
-    omega (arith, line-inside (c .before .before .before .before .before .before .before .before .before .before), c .before .before .before .before .before .before .before .before .before .before .before .before .before .before .before .pre, c .before .before .before .before .before .before .before .before .before .before .before .loop .inv .ran, c .before .before .before .before .before .before .before .before .before .before .before .before .sweeps .inv)
+    let turn = c .before .before .before .before .before .before .before .before .before .before .before .before .before in
+    omega (arith, line-inside (c .before .before .before .before .before .before .before .before .before .before .before .before), turn .before .before .before .before .pre, turn .loop .inv .ran, turn .before .sweeps .inv)
 
 add-v : tie.Need-add-v Inv-loop2 μ-loop2 Inv-loop μ-loop Inv-sweeps μ-sweeps
-add-v c =
-    omega (arith, c .before .before .before .before .before .before .before .before .before .before .before .before .before .before .before .pre, c .before .before .before .before .before .before .before .before .before .before .loop-test)
+add-v c = omega (arith, c .before .before .before .before .before .before .before .before .before .before .before .before .before .before .before .before .before .pre, c .before .before .before .before .before .before .before .before .before .before .before .before .loop-test)
 
 loop-less : tie.Need-loop-less Inv-loop2 μ-loop2 Inv-loop μ-loop Inv-sweeps μ-sweeps
-loop-less c = omega (arith, c .before .before .before .before .before .before .before .before .before .before .loop-test)
+loop-less c = omega (arith, c .before .before .before .before .before .before .before .before .before .before .before .before .loop-test)
 
 loop-again : tie.Need-loop-again Inv-loop2 μ-loop2 Inv-loop μ-loop Inv-sweeps μ-sweeps
 loop-again c =
-    let turn = c .before .before .before .before .before .before .before .before .before .before .before in
-    let whole : c .before .loop2 .t ≡ c .before .before .before .before .before .before .before .before .before .before .before .before .before .before .before .args .n + 1 = omega (arith, c .loop2-test, c .before .loop2 .inv) in
-    lines-turn (c .before .before .before .before .before .before .before .before .before .before .loop-test .taken) (turn .loop .inv) (c .before .before .before .before .before .before .before .line .ensures) (rw whole at (c .before .loop2 .inv .1))
-    (⊎-elim (λ w. or-when (turn .loop .changed) (w .0 .taken) (w .1)) (λ w. or-else (turn .loop .changed) (w .0 .left) (w .1)) (c .before .before .if1 .came))
+    let turn = c .before .before .before .before .before .before .before .before .before .before .before .before .before in
+    let line = c .before .before .before .before .before .before .before .before .before .line in
+    lines-turn (c .before .before .before .before .before .before .before .before .before .before .before .before .loop-test .taken) (turn .loop .inv) (line .ensures)
+    (uncrossed c)
+    (⊎-elim (λ w. or-when (turn .loop .changed) (w .0 .taken) (w .1)) (λ w. or-else (turn .loop .changed) (w .0 .left) (w .1)) (c .before .before .before .before .if1 .came))
 
 columns-requires : tie.Need-columns-requires Inv-loop2 μ-loop2 Inv-loop μ-loop Inv-sweeps μ-sweeps
 columns-requires c κs =
@@ -138,28 +159,28 @@ returns c =
     let start = c .before .before .before .before .before .before .before .before .before .before .before .before .before .before in
     let last = sweeps-turn (c .before .before .before .before .before .before .before .before .before .before .before .sweeps .inv) (swept (c .before)) in
     loosest-closing _ _ _ _ (start .pre .lowers) (start .pre .uppers) _ _ (last .sizeL ∙ start .pre .lowers) (last .sizeU ∙ start .pre .uppers)
-    (sweeps-loosest (c .before .before .before .before .before .before .before .before .before .before .before .sweeps .inv) (swept (c .before)) (not-true _ (c .if3 .taken)))
+    (sweeps-loosest (c .before .before .before .before .before .before .before .before .before .before .before .sweeps .inv) (swept (c .before)) (not-true _ (c .if4 .taken)))
 
 sweeps-less : tie.Need-sweeps-less Inv-loop2 μ-loop2 Inv-loop μ-loop Inv-sweeps μ-sweeps
-sweeps-less c = swept (c .before) .swept _ (le-refl _) .moved (not-false _ (c .if3 .left))
+sweeps-less c = swept (c .before) .swept _ (le-refl _) .moved (not-false _ (c .if4 .left))
 
 sweeps-again : tie.Need-sweeps-again Inv-loop2 μ-loop2 Inv-loop μ-loop Inv-sweeps μ-sweeps
 sweeps-again c =
     sweeps-turn (c .before .before .before .before .before .before .before .before .before .before .before .sweeps .inv) (swept (c .before))
 
 same-length-3 : tie.Need-same-length-3 Inv-loop2 μ-loop2 Inv-loop μ-loop Inv-sweeps μ-sweeps
-same-length-3 c =
-    omega (arith, c .before .before .before .before .before .before .before .before .before .before .before .line .kept, c .before .before .before .before .before .before .before .before .before .before .before .before .before .before .before .loop .inv, c .before .before .before .before .before .before .before .before .before .before .before .before .before .before .before .before .sweeps .inv)
+same-length-3 c = omega (arith, c .before .before .before .before .before .before .before .before .before .before .before .before .before .before .before .line .kept, c .before .before .before .before .before .before .before .before .before .before .before .before .before .before .before .before .before .before .before .loop .inv, c .before .before .before .before .before .before .before .before .before .before .before .before .before .before .before .before .before .before .before .before .sweeps .inv)
 
 same-length-4 : tie.Need-same-length-4 Inv-loop2 μ-loop2 Inv-loop μ-loop Inv-sweeps μ-sweeps
-same-length-4 c =
-    omega (arith, c .before .before .before .before .before .before .before .before .before .before .before .line .kept, c .before .before .before .before .before .before .before .before .before .before .before .before .before .before .before .loop .inv, c .before .before .before .before .before .before .before .before .before .before .before .before .before .before .before .before .sweeps .inv)
+same-length-4 c = omega (arith, c .before .before .before .before .before .before .before .before .before .before .before .before .before .before .before .line .kept, c .before .before .before .before .before .before .before .before .before .before .before .before .before .before .before .before .before .before .before .loop .inv, c .before .before .before .before .before .before .before .before .before .before .before .before .before .before .before .before .before .before .before .before .sweeps .inv)
 
 returns-2 : tie.Need-returns-2 Inv-loop2 μ-loop2 Inv-loop μ-loop Inv-sweeps μ-sweeps
 returns-2 c =
-    let start = c .before .before .before .before .before .before .before .before .before .before .before .before .before .before .before .before .before .before .before in
+    let turn = c .before .before .before .before .before .before .before .before .before .before .before .before .before .before .before .before .before .before .before in
+    let start = turn .before .before .before .before in
     none-closing _ _ _ _ (start .pre .lowers) (start .pre .uppers)
-    (sweeps-crossed (c .before .before .before .before .before .before .before .before .before .before .before .before .before .before .before .before .sweeps .inv) _ (c .before .before .before .before .before .before .before .before .before .before .before .before .before .before .loop-test .taken) (c .before .before .before .before .loop2-test .taken) (c .before .before .before .before .before .before .before .before .before .before .before .before .before .before .before .loop .inv) (c .before .before .before .before .before .before .before .before .before .before .before .line .ensures) (sym (c .before .crossed .ensures) ∙ c .if2 .taken))
+    (sweeps-crossed (turn .before .sweeps .inv) _ (c .before .before .before .before .before .before .before .before .before .before .before .before .before .before .before .before .before .before .loop-test .taken) (c .before .before .before .before .loop2-test .taken) (turn .loop .inv) (c .before .before .before .before .before .before .before .before .before .before .before .before .before .before .before .line .ensures)
+    (sym (c .before .crossed .ensures) ∙ c .if3 .taken))
 
 same-length-5 : tie.Need-same-length-5 Inv-loop2 μ-loop2 Inv-loop μ-loop Inv-sweeps μ-sweeps
 same-length-5 c =
@@ -188,6 +209,7 @@ close-table-spec =
     sweeps-holds
     loop-holds
     line-requires
+    crosses-requires
     loop2-holds
     add-crossed
     crossed-requires
