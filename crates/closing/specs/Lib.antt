@@ -1,2 +1,3 @@
 pub mod Close
+pub mod Fill
 pub mod Ready
