@@ -1,12 +1,14 @@
 //! Times the proved filter against plain ones, on the same random books in one run:
-//! `cargo run --release -p bench`, or with `-- close`, `-- settle` or `-- session` for one of them. It prints ratios
-//! of medians; the times beside them are this machine's, at this moment.
+//! `cargo run --release -p bench`, or with `-- close`, `-- settle` or `-- session` for one of them. With
+//! `-- replay FOLDER NAME..` it replays call scripts from files (see `replay.rs`). It prints ratios of medians; the
+//! times beside them are this machine's, at this moment.
 
 mod bounds;
 mod engine;
 mod in_place;
 mod lanes;
 mod opening;
+mod replay;
 mod session;
 
 use std::env;
@@ -168,8 +170,14 @@ fn run_contests(asked: impl Fn(&str) -> bool) {
 }
 
 fn main() {
-    let only = env::args().nth(1);
-    let asked = |name: &str| only.as_ref().is_none_or(|only| only == name);
+    let arguments: Vec<String> = env::args().skip(1).collect();
+    if let [mode, folder, names @ ..] = arguments.as_slice() {
+        if mode == "replay" && !names.is_empty() {
+            return replay::run(folder, names);
+        }
+    }
+    let only = arguments.first();
+    let asked = |name: &str| only.is_none_or(|only| only == name);
     if asked(CLOSE.name) || asked(SETTLE.name) {
         run_contests(asked);
     }
