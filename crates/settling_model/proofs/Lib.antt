@@ -1,5 +1,6 @@
 pub mod BookLaws
 pub mod CornersLaws
+pub mod CrossedRowLaws
 mod CutsLaws
 pub mod OccursLaws
 mod PassesLaws
