@@ -5,7 +5,7 @@ ghost use Rattle.answer.specs.Answer.{wordOf};
 pub enum Answer {
     Live,
     Dead,
-    // by document 01's refusal number, 1 to 25
+    // by document 01's number of the refusal
     Refused(u8),
 }
 

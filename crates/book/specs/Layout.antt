@@ -4,8 +4,9 @@
 --   rowCount                 r
 --   masksOffset, rowsOffset, bookLength   the offsets and the length that the header gives
 --   maskAt b s               the mask of slot s
---   rowsPart b               the bytes from the rows' offset to the end
+--   rowsPart b               the bytes from the rows' offset, 12 + 4n, to the end
 --   rowAt p i                row i of such a part
+--   listOf m f               the list of f 0, f 1, .., f (m - 1)
 --   masks b, rows b          all masks by slot, and all rows in order
 -- Assumes nothing.
 use mathlib.Core.List.{List, [], _∷_, _++_}
@@ -60,7 +61,6 @@ rowAt p i =
     }
 
 -- ---- both as lists
--- f 0, f 1, .., m of them
 unfoldable pub listOf {ℓ} : {A : Type ℓ} → ℕ → (ℕ → A) → List A
 listOf zero f = []
 listOf (suc m) f = listOf m f ++ (f m ∷ [])

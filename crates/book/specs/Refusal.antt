@@ -2,6 +2,7 @@
 --   fault number bad        the number where the condition holds, else 0
 --   _orElse_                the first of two numbers that is not 0
 --   firstOf m f             the first of f 0, f 1, .., f (m - 1) that is not 0; 0 where there is none
+--   within most x           x is from 1 to most
 --   outOfRange, misplaced   the conditions of the numbers 2 and 4
 --   headerFault, maskFault, rowFault   the numbers 1 to 4, 5, and 6 to 8
 --   refusal limits b        the number that refuses b, 0 for a good book
@@ -34,7 +35,6 @@ unfoldable pub firstOf : ℕ → (ℕ → ℕ) → ℕ
 firstOf zero f = 0
 firstOf (suc m) f = firstOf m f orElse f m
 
--- x is from 1 to most
 abbrev pub within : ℕ → ℕ → Bool
 within most x = leb 1 x && leb x most
 

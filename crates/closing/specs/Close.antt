@@ -3,9 +3,10 @@
 --   entries b               k(n+1), how many lowers and how many uppers the table of book b has
 --   closeFault              the number that refuses: the book's own, then 9 where either output is too short; 0 where none does
 --   Outcome                 refused with a number; dead, with so many entries of each output filled; live, with the bounds
---   closeOf                 the outcome: refused by closeFault, else what the model `closing` says of the starting table
+--   closeGood, outcomeOf    the outcome for a good book, with room: what the model `closing` says of the starting table
+--   closeOf                 the outcome: refused by closeFault, else closeGood; unless: refused by a number that is not 0, else the outcome
 --   answerOf                what the entry answers: 0 live, 1 dead, 256 + the number of a refusal
---   lowersOf, uppersOf      what stands in the front of each output: nothing if refused, zeros if dead, the bounds if live
+--   lowersOf, uppersOf      what stands in the front of each output: nothing if refused, zeros if dead, the bounds if live; written: either
 --   overlay xs lent         what was lent, its front replaced by xs: elements past the length written keep their contents
 --   Closes                  the answer and both outputs are those of an outcome
 -- Assumes nothing.
@@ -39,7 +40,6 @@ abbrev pub outcomeOf : ℕ → Option (List ℕ × List ℕ) → Outcome
 outcomeOf m none = dead m
 outcomeOf m (some T) = live (T .0) (T .1)
 
--- of a good book, with room
 unfoldable pub closeGood : List ℕ → Outcome
 closeGood b =
     outcomeOf (entries b)

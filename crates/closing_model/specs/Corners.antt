@@ -2,7 +2,7 @@
 --   UpperCorner n u t   flat into t and, unless t = n, rising out of it
 --   LowerCorner n l t   rising into t and, unless t = n, flat out of it
 --   Staircase n u       starts at 0 and grows by 0 or 1 at each step up to n
---   line f n v          the line of value v in a flat table
+--   line f n v          the line of value v, where f gives the entries by place
 -- Assumes nothing.
 use mathlib.Core.Path.{_≡_}
 use Prim.Native.Nat.{ℕ, suc, _+_, _-_, _≤_, _<_}

@@ -12,7 +12,7 @@
 --   Narrows m P A B      B lies within A, and every table with P within A lies within B
 --   raised, lowered      a list with one entry raised, or lowered, to a number
 --   Stored               both lists after the lower at a place was raised and the upper there lowered
---   weigh, slack         what is left to fall: each store of a rule makes it less
+--   weigh, slack         what is left to fall: each store of a rule makes it less (document 01's slack of a corner is another thing)
 --   Swept, Ran, Did      what a run of rules did to the lists; r says whether it stored
 --   Passed               the same where no one is told whether it stored
 -- Assumes nothing.

@@ -2,7 +2,7 @@
 -- C tells the corners and f their slack. A segment reaches up to its right end (document 01: a wall) from behind the one before.
 --   upTo g t             the sum of g over the prefixes 1 to t
 --   sumTo cells t        the sum of the cells 1 to t
---   Stands n C f t       t is the right end of a segment: a corner whose slack is above 0 and below that of every later corner
+--   Stands n C f t       t, from 1 to n, is the right end of a segment: a corner whose slack is above 0 and below that of every later corner
 --   Spent n C f z        z is the last corner without slack, or 0
 --   Cells n C f cells    cell 0 is the spent corner; a cell is above 0 just where a segment ends, and the cells up to there sum to its slack
 --   standingIn cells n   how many segments the cells hold

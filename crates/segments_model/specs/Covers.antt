@@ -1,7 +1,7 @@
 -- What the cells hold, in a form that each store keeps: no order of the slacks, and any predicate for the corners.
 --   RightEnd C f cells t   the cell t is above 0: a corner after the spent one, and the cells up to it sum to its slack
 --   Cover n f cells u      a right end at u or after it, with no more slack
---   Covers n C f cells     each right end is such a corner, and each corner that is not spent is covered
+--   Covers n C f cells     each right end is such a corner, and each corner that is not spent is covered; Corner C: the corners of a test C
 -- Assumes nothing.
 use mathlib.Core.Path.{_≡_}
 use mathlib.Core.Bool.{Bool, true}
@@ -29,6 +29,5 @@ pub record Covers (n : ℕ) (C : ℕ → Type 0) (f : ℕ → ℕ) (cells : List
   pub ends : (t : ℕ) → 0 < t → t ≤ n → 0 < getD cells t 0 → RightEnd C f cells t
   pub cover : (u : ℕ) → getD cells 0 0 < u → u ≤ n → C u → Cover n f cells u
 
--- the corners of a test
 abbrev pub Corner : (ℕ → Bool) → ℕ → Type 0
 Corner C u = C u ≡ true

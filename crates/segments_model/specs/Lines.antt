@@ -2,7 +2,8 @@
 -- A kind is a Bool: true for the lower bounds, false for the upper ones.
 --   lineOf rises v         the line that starts at 0 and grows by bit v of the rises at each prefix
 --   Rising n v rises u     u is that line up to n
---   cornerOf kind n u t    u turns at t: a breakpoint of its staircase (document 01: a lower or an upper corner)
+--   cornerOf kind n u t    u turns at t: a breakpoint of its staircase (document 01: a lower or an upper corner), for t from 1 to n; what it
+--                          says of other t plays no part
 --   tick, countOf          what one mask counts for the kind, and their sum before t: document 01's P (lower) or B (upper)
 --   gain, loss, slackOf    P - lower or upper - B, and its two parts
 --   Change kind m₀ m v d   the mask m in place of m₀ costs the slack d

@@ -1,7 +1,10 @@
 -- Which decisions are in force, from the calls and their answers alone: a decision that was answered live, and that no back took
 -- back. A back takes back every decision made since the mark that it restores, so each open mark keeps the decisions then in force.
 --   Ledger          the decisions in force, and those at each open mark, the latest first
+--   unmarked        the ledger of a fresh session: nothing in force, no mark open
 --   follow          the ledger after one more call and its answer; followAll: after a list
+--   whenLive, whenDone   the ledger after an answer live, or done; any other answer leaves it
+--   takenBack       the ledger of the latest open mark, which is then gone
 --   inForce         the decisions in force after calls with these answers; atMarks: those at the marks still open
 -- Assumes nothing.
 use mathlib.Core.List.{List, [], _∷_}

@@ -1,10 +1,10 @@
 -- The plain machine of document 01 ('Session'), as a function on lists.
---   act R S c          what a call does that no number refuses
---   step R S c         one call: refused, or done
+--   act R S c          what a call does that no number refuses; decided, restored: a decision and a back
+--   step R S c         one call: refused, or done; stepBy: by the refusal that applies
 --   runs R S calls     a list of calls from a state, each on the state that the one before left: the last state, and the answers
---   opened R settled   the opening, from the settling of the book's masks
+--   opened R settled   the opening, from the settling of the book's masks: fresh with these, or shut and wallless
 --   run R book calls   a list of calls from the fresh opening of a book's masks
---   after, replies     the state after a list, and its answers; replyAt .. i: the answer to call i
+--   after, replies     the state after a list, and its answers; replyAt .. i: the answer to call i, one of the list's
 -- Assumes nothing.
 use mathlib.Core.Bool.{true, false}
 use mathlib.Core.List.{List, [], _∷_}

@@ -1,5 +1,5 @@
 -- The conditions of a stable list at the corners of a table only. With a closed table they are enough (`corners-stable`, `stable-corners`).
---   Meets u c S t        at end t the count c is at most the bound u, and S holds where it meets it
+--   Meets u c S t        at end t, c is at most u, and S holds where they meet: an upper bound u and a count c, or a count u and a lower bound c
 --   CornersKept n k T M  M keeps the upper bounds of T at their upper corners, and the lower bounds at their lower corners
 -- Where a bound is met both kinds ask `Settled` (`keeps-low-settled`, `keeps-high-settled`).
 -- Assumes nothing.

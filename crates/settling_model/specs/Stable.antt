@@ -7,7 +7,8 @@
 --   Largest bs M N     N is the largest stable list within M
 --   Unstable bs M      no stable list lies within M (document 01: dead)
 --   boundAt n T v t    the bound that a table has for value v and end t
---   tableBounds n k T  the bounds of a table: for every value below k and every end from 1 to n (`stable-keeps`, `keeps-stable`)
+--   tableBounds n k T  the bounds of a table: for every value below k and every end from 1 to n (`stable-keeps`, `keeps-stable`);
+--                      lineBounds n T v e: those of value v alone, for the ends from 1 to e
 -- P is `countHas`, B is `countFixed`. Assumes nothing.
 use mathlib.Core.Path.{_≡_}
 use mathlib.Core.List.{List, [], _∷_, _++_}
@@ -56,7 +57,6 @@ Unstable bs M = (N : List ℕ) → Stable bs N → Subset N M → ⊥
 abbrev pub boundAt : ℕ → Table → ℕ → ℕ → Bound
 boundAt n T v t = record { value = v; end = t; lower = T .lower (place n v t); upper = T .upper (place n v t) }
 
--- value v, the ends from 1 to e
 unfoldable pub lineBounds : ℕ → Table → ℕ → ℕ → List Bound
 lineBounds n T v zero = []
 lineBounds n T v (suc e) = boundAt n T v (suc e) ∷ lineBounds n T v e
