@@ -113,7 +113,7 @@ pub fn back(
     let from = height(heights, marks);
     undo(masks, cells, trail, n, k, from, top);
     let live = Session {
-        standing: Standing::Live,
+        standing: Standing::Live, // dead becomes live
         top: from,
         marks,
     };
