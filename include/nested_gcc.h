@@ -182,7 +182,7 @@ uint32_t nested_gcc_settle(const uint8_t *book, size_t book_len, uint8_t *masks,
  * Refusals: 1 to 8; then 10 if calls_len is no multiple of 4 or above NESTED_GCC_CALLS_BYTES; then 9 if answers has
  *     fewer than two whole elements a call, or masks fewer than n. Neither output is touched. A list without calls
  *     is good.
- * Bytes past the elements written stay as they are. No two of the four buffers may overlap.
+ * Bytes past the elements written stay as they are.
  *
  * Stack: 117 KiB, and as for nested_gcc_settle up to 560 bytes for each strike that is nested in another. The
  * deepest nesting found needs 224 KiB in all; 512 KiB is what the test holds, and 5 MiB suffices for every book

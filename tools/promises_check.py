@@ -1,0 +1,189 @@
+#!/usr/bin/env python3
+"""Checks docs/PROMISES.md against the repository; exit 1 where something does not hold.
+
+- Every backticked file and edit exists. `CRATE/must-fail/X` is the edit crates/CRATE/must-fail/X.edit; other paths start at the root or at crates/.
+- Every backticked name is found as a whole word: names before a file in that file, names with no file after them somewhere under crates/.
+- Each row of a table of clauses has five filled cells, its third cell only keys, two wrong programs, and an edit or the words 'no edit:'.
+- The files of a key are just those that its names rest on: the definitions that they reach, name by name, through the specs/ folders.
+"""
+import re
+import sys
+from pathlib import Path
+
+ROOT = Path(__file__).resolve().parent.parent
+CRATES = ROOT / 'crates'
+PAGE = ROOT / 'docs' / 'PROMISES.md'
+WORD = r'[\w·′\-]'
+faults = []
+
+
+def fault(number, text):
+    faults.append(f'{PAGE.relative_to(ROOT)}:{number}: {text}')
+
+
+# ---- names, files and edits
+
+
+def texts():
+    """The text of each file under crates/ that may hold a name."""
+    files = [f for part in ('src', 'specs', 'proofs') for f in CRATES.glob(f'*/{part}/**/*') if f.is_file()]
+    return {f: f.read_text() for f in files if f.suffix in ('.rt', '.antt')}
+
+
+def holds(text, name):
+    return re.search(f'(?<!{WORD}){re.escape(name)}(?!{WORD})', text) is not None
+
+
+def file_of(token):
+    """The file that a token names, or None where it names no file."""
+    if re.fullmatch(r'\w+/must-fail/\w+', token):
+        return CRATES / f'{token}.edit'
+    if '/' in token:
+        return next((base / token for base in (ROOT, CRATES) if (base / token).exists()), ROOT / token)
+    return None
+
+
+def check_tokens(number, text, sources):
+    """Names wait for the file after them; those that none follows are looked for everywhere."""
+    waiting = []
+    for token in re.findall(r'`([^`]+)`', text):
+        file = file_of(token)
+        if file is None:
+            waiting.append(token)
+            continue
+        if not file.exists():
+            fault(number, f'there is no {token}')
+        elif file in sources:
+            for name in waiting:
+                if not holds(sources[file], name):
+                    fault(number, f'{name} is not in {token}')
+        waiting = []
+    for name in waiting:
+        if not any(holds(source, name) for source in sources.values()):
+            fault(number, f'{name} is nowhere under crates/')
+
+
+# ---- what a definition rests on
+
+
+class Specs:
+    """The definitions of the specs/ folders, each with the names in its text, resolved by its file's `use` lines."""
+
+    def __init__(self, sources):
+        self.text = {}  # (file, name) -> the definition's text; a constructor stands for its data type
+        self.home = {}  # (file, constructor) -> (file, data type)
+        self.used = {}  # file -> {name: file}
+        self.alias = {}  # file -> {alias: file}
+        for file, source in sources.items():
+            if file.parent.name == 'specs' and file.name != 'Lib.antt':
+                self.read(file.relative_to(CRATES).as_posix(), source)
+
+    def read(self, file, source):
+        self.used[file], self.alias[file] = {}, {}
+        at = None
+        for line in source.splitlines():
+            use = re.match(r'use Rattle·(\w+?)(?:·specs)?\.(?:specs\.)?(\w+)(?:\.\{(.*)\})?(?: as (\w+))?$', line)
+            if use:
+                target = f'{use[1]}/specs/{use[2]}.antt'
+                self.used[file].update({name.strip(): target for name in (use[3] or '').split(',')})
+                if use[4]:
+                    self.alias[file][use[4]] = target
+            if line.startswith(('use ', 'infix', '--')):
+                at = None
+                continue
+            start = re.match(r'(?:abbrev |unfoldable )?pub (?:record |data )?(\S+)', line)
+            if start:
+                at = (file, start[1])
+                self.text[at] = ''
+            if at:
+                self.text[at] += line.split('--')[0] + '\n'
+                constructors = re.match(r'  (\w[\w\- ]*?) :', line)
+                if constructors and self.text[at].startswith('pub data'):
+                    self.home.update({(file, name): at for name in constructors[1].split()})
+
+    def defined(self, file, name):
+        return next(((file, n) for n in (name, f'_{name}_') if (file, n) in self.text), self.home.get((file, name)))
+
+    def names_in(self, key):
+        file = key[0]
+        for name in set(re.findall(f'{WORD}+', self.text[key])):
+            for n in (name, f'_{name}_'):
+                found = self.defined(file, n) or self.defined(self.used[file].get(n), n)
+                if found:
+                    yield found
+        for alias, target in self.alias[file].items():
+            for name in re.findall(rf'{alias}\.({WORD}+)', self.text[key]):
+                found = self.defined(target, name)
+                if found:
+                    yield found
+
+    def closure(self, names):
+        """The files of all definitions that these names reach."""
+        reached, todo = set(), [key for key in self.text if key[1] in names]
+        while todo:
+            key = todo.pop()
+            if key not in reached:
+                reached.add(key)
+                todo += self.names_in(key)
+        return {file for file, _ in reached}
+
+
+# ---- the page
+
+
+def check_key(number, line, specs, keys):
+    """A line `- **KEY** (roots): files`: the files, and those of the keys before it that it lists, are those of the roots' closure."""
+    roots, files = line.split('):', 1)
+    names = re.findall(r'`([^`]+)`', roots)
+    listed = set(re.findall(r'`([^`]+)`', files))
+    for key in re.findall(r'\*\*(\w+)\*\*', files):
+        listed |= keys.get(key, set())
+    keys[re.match(r'- \*\*(\w+)', line)[1]] = listed
+    reached = specs.closure(names)
+    for file in sorted(reached - listed):
+        fault(number, f'{", ".join(names)} rest on {file} too')
+    for file in sorted(listed - reached):
+        fault(number, f'{", ".join(names)} do not rest on {file}')
+
+
+def check_row(number, cells, keys):
+    if len(cells) != 5 or not all(cells):
+        fault(number, f'{len(cells)} cells, {sum(map(bool, cells))} of them filled, where 5 are asked')
+        return
+    clause, _, believe, wrong, edit = cells
+    for key in re.split(r'[,;] ', believe):
+        if key not in keys:
+            fault(number, f'"{key}" is no key')
+    if len(wrong.split(';')) < 2:
+        fault(number, f'fewer than two wrong programs for "{clause}"')
+    if '/must-fail/' not in edit and not edit.startswith('no edit: '):
+        fault(number, f'no edit for "{clause}"')
+
+
+def main():
+    sources = texts()
+    specs = Specs(sources)
+    lines = PAGE.read_text().splitlines()
+    keys, rows, clauses = {}, 0, False
+    for number, line in enumerate(lines, 1):
+        if line.startswith('- **'):
+            check_key(number, line, specs, keys)
+        cells = [cell.strip() for cell in line.strip('|').split('|')] if line.startswith('|') else None
+        for text in cells or line.split('):' if line.startswith('- **') else '\n'):
+            check_tokens(number, text, sources)
+        if not cells:
+            clauses = False
+        elif cells[0] == 'Clause':
+            clauses = True
+        elif clauses and not line.startswith('|---'):
+            check_row(number, cells, keys)
+            rows += 1
+    if not rows:
+        faults.append(f'{PAGE.relative_to(ROOT)}: no table of clauses')
+    for line in faults:
+        print(line)
+    print(f'docs/PROMISES.md: {rows} clauses, {len(keys)} keys, {len(faults)} faults')
+    sys.exit(1 if faults else 0)
+
+
+main()
