@@ -8,6 +8,7 @@
 --   UpperRaised n k trail ..   where the slot is fixed in M′, the fall of that value's upper row is taken back
 --   TakenBack n k trail ..     a strike of v at the slot is taken back, from M′ and cells′ to M and cells: such an upper fall, then the fall of v's
 --                              lower row, and v is put in
+--   StrikeBack n k trail i     the strike i is taken back
 --   Restores n k trail from j  the j strikes from `from` on, taken back the latest first, lead from M′ and cells′ to M and cells
 --   Kept n M trail h trail′    the strikes below h are the same, and the notes of the slots that have one value, or none, in M
 --   Trailed n k M cells trail top ..   from M and cells at height top to M′ and cells′ at height h: the strikes from top on, taken back, lead to
@@ -58,12 +59,14 @@ pub record TakenBack (n k : ℕ) (trail : List ℕ) (slot v x : ℕ) (M′ cells
   pub upper : UpperRaised n k trail M′ slot cells′ between
   pub lower : RowRaised n v slot x between cells
 
+abbrev pub StrikeBack : ℕ → ℕ → List ℕ → ℕ → List ℕ → List ℕ → List ℕ → List ℕ → Type 0
+StrikeBack n k trail i M′ cells′ M cells = TakenBack n k trail (slotAt n trail i) (valueAt n trail i) (noteAt n trail i) M′ cells′ M cells
+
 unfoldable pub Restores : ℕ → ℕ → List ℕ → ℕ → ℕ → List ℕ → List ℕ → List ℕ → List ℕ → Type 0
 Restores n k trail from zero M′ cells′ M cells = (M′ ≡ M) × (cells′ ≡ cells)
 Restores n k trail from (suc j) M′ cells′ M cells =
     (M₁ : List ℕ) × (cells₁ : List ℕ)
-    × TakenBack n k trail (slotAt n trail (from + j)) (valueAt n trail (from + j)) (noteAt n trail (from + j)) M′ cells′ M₁ cells₁
-    × Restores n k trail from j M₁ cells₁ M cells
+    × StrikeBack n k trail (from + j) M′ cells′ M₁ cells₁ × Restores n k trail from j M₁ cells₁ M cells
 
 pub record Kept (n : ℕ) (M trail : List ℕ) (h : ℕ) (trail′ : List ℕ) : Type 0 where
   pub below : (i : ℕ) → n ≤ i → i < n + 3 * h → getD trail′ i 0 ≡ getD trail i 0

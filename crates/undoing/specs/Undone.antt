@@ -14,7 +14,7 @@ use Prim.Native.Nat.{ℕ, _+_, _*_, _-_, _≤_, _<_}
 use lib.ListN.{length}
 use Rattle.segments_model.specs.Part.{part}
 use Rattle.segments_model.specs.Raise.{Raisable}
-use Rattle.filter_model.specs.Trail.{slotAt, valueAt, noteAt, UpperRaised, TakenBack, Restores}
+use Rattle.filter_model.specs.Trail.{UpperRaised, StrikeBack, Restores}
 
 pub record Sizes (masks cells : List ℕ) (n k : ℕ) : Type 0 where
   pub slots : n ≤ length masks
@@ -43,12 +43,10 @@ pub record StrikeUndoing (masks cells trail : List ℕ) (n k i : ℕ) : Type 0 w
   pub strike-in : n + 3 * i + 2 < length trail
   pub old : List ℕ
   pub old-cells : List ℕ
-  pub taken : TakenBack n k trail (slotAt n trail i) (valueAt n trail i) (noteAt n trail i) masks cells old old-cells
+  pub taken : StrikeBack n k trail i masks cells old old-cells
 
 pub record StrikeUndone (masks cells trail : List ℕ) (n k i : ℕ) (masks′ cells′ : List ℕ) : Type 0 where
-  pub restored : (old old-cells : List ℕ)
-      → TakenBack n k trail (slotAt n trail i) (valueAt n trail i) (noteAt n trail i) masks cells old old-cells
-      → (masks′ ≡ old) × (cells′ ≡ old-cells)
+  pub restored : (old old-cells : List ℕ) → StrikeBack n k trail i masks cells old old-cells → (masks′ ≡ old) × (cells′ ≡ old-cells)
 
 pub record Undoable (masks cells trail : List ℕ) (n k from to : ℕ) : Type 0 where
   pub sizes : Sizes masks cells n k
