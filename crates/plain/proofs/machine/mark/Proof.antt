@@ -1,0 +1,50 @@
+-- `plain::machine::mark` is safe and ends. Its loop needs no invariant; the measure is the slots that are left. Assumes nothing.
+use Prim.Native.Nat.{_-_}
+use borrow.Author.Needs.{needs}
+use Rattle.plain.proofs.machine.mark.Statement.{statement}
+use Rattle.plain.proofs.machine.mark.Tie as tie
+
+abbrev Inv-loop : tie.InvT-loop
+Inv-loop session masks pile₀ marks slot₀ pile slot = Unit {0}
+
+abbrev μ-loop : tie.MeasureT-loop
+μ-loop session masks pile₀ marks slot₀ pile slot = 32 - slot
+
+loop-holds : tie.Need-loop-holds Inv-loop μ-loop
+loop-holds c = search needs
+
+mask-requires : tie.Need-mask-requires Inv-loop μ-loop
+mask-requires c κs = search needs
+
+save-requires : tie.Need-save-requires Inv-loop μ-loop
+save-requires c κs = search needs
+
+add-slot : tie.Need-add-slot Inv-loop μ-loop
+add-slot c = search needs
+
+loop-less : tie.Need-loop-less Inv-loop μ-loop
+loop-less c = search needs
+
+loop-again : tie.Need-loop-again Inv-loop μ-loop
+loop-again c = search needs
+
+plus-requires : tie.Need-plus-requires Inv-loop μ-loop
+plus-requires c κs = search needs
+
+returns : tie.Need-returns Inv-loop μ-loop
+returns c = search needs
+
+pub mark-spec : {M : Type 1} → statement M
+mark-spec =
+    tie.close
+    (tie.spec
+    Inv-loop
+    μ-loop
+    loop-holds
+    mask-requires
+    save-requires
+    add-slot
+    loop-less
+    loop-again
+    plus-requires
+    returns)

@@ -1,0 +1,46 @@
+-- `plain::tables::no_rows` is safe and ends. Its loop needs no invariant; the measure is the entries that are left. Assumes nothing.
+use Prim.Native.Nat.{_-_}
+use borrow.Author.Needs.{needs}
+use Rattle.plain.proofs.tables.no_rows.Statement.{statement}
+use Rattle.plain.proofs.tables.no_rows.Tie as tie
+
+abbrev Inv-loop : tie.InvT-loop
+Inv-loop lower₀ upper₀ p₀ lower upper p = Unit {0}
+
+abbrev μ-loop : tie.MeasureT-loop
+μ-loop lower₀ upper₀ p₀ lower upper p = 256 - p
+
+loop-holds : tie.Need-loop-holds Inv-loop μ-loop
+loop-holds c = search needs
+
+set-entry-requires : tie.Need-set-entry-requires Inv-loop μ-loop
+set-entry-requires c κs = search needs
+
+set-entry-requires-2 : tie.Need-set-entry-requires-2 Inv-loop μ-loop
+set-entry-requires-2 c κs = search needs
+
+add-p : tie.Need-add-p Inv-loop μ-loop
+add-p c = search needs
+
+loop-less : tie.Need-loop-less Inv-loop μ-loop
+loop-less c = search needs
+
+loop-again : tie.Need-loop-again Inv-loop μ-loop
+loop-again c = search needs
+
+returns : tie.Need-returns Inv-loop μ-loop
+returns c = search needs
+
+pub no-rows-spec : {M : Type 1} → statement M
+no-rows-spec =
+    tie.close
+    (tie.spec
+    Inv-loop
+    μ-loop
+    loop-holds
+    set-entry-requires
+    set-entry-requires-2
+    add-p
+    loop-less
+    loop-again
+    returns)
