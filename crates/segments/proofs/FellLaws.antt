@@ -5,13 +5,15 @@ use mathlib.Core.Path.{_≡_, refl, ap, _∙_}
 use mathlib.Core.Bool.{Bool}
 use mathlib.Core.Logic.{dite}
 use mathlib.Core.List.{List}
-use Prim.Native.Nat.{ℕ, _-_, _≤_, _<_}
+use Prim.Native.Nat.{ℕ, _+_, _-_, _≤_, _<_}
 use native.Mathlib.Decide.{decLt}
 use native.Mathlib.Omega.{arith}
 use lib.ListN.{length, getD, set, length-set}
 use Rattle.segments_model.specs.Fall.{MoreThan, Meets}
-use Rattle.segments_model.specs.Search.{Next, Previous}
+use Rattle.segments_model.specs.Links.{gaps, nextOf}
+use Rattle.segments_model.specs.Search.{Previous}
 use Rattle.segments_model.proofs.FallenLaws.{clashed, quiet-none, quiet-less, quiet-join, reached-spend}
+use Rattle.segments_model.proofs.LinksLaws.{end-gaps}
 use Rattle.segments_model.proofs.RaiseLaws.{reversal-none, reversal-less, reversal-join, reversal-spend}
 use Rattle.segments.specs.declared.Hit.{Hit}
 use Rattle.segments.specs.declared.Hit.the-variants.{Quiet, Clash, Reached}
@@ -23,44 +25,46 @@ module _ (n slot : ℕ) (l : List ℕ) where
   pub fell-clash : slot < getD l 0 0 → Fell n slot l l Clash
   fell-clash slot<z = record { size = refl; inside = tt; answer = λ C f held. clashed slot held slot<z; reverses = slot<z }
 
-  module _ (slot≤n : slot ≤ n) (free : getD l 0 0 ≤ slot) {t : ℕ} (next : Next n slot l t) where
+  module _ (slot≤n : slot ≤ n) (n<len : n < length l) (free : getD l 0 0 ≤ slot) {t : ℕ} (found : t ≡ nextOf n slot l) where
     pub fell-none : n < t → Fell n slot l l (Quiet 0)
     fell-none n<t =
         record {
           size = refl;
           inside = tt;
-          answer = λ C f held. quiet-none slot held free next n<t;
-          reverses = reversal-none n slot l slot≤n free next n<t;
+          answer = λ C f held. quiet-none slot held free slot≤n n<len found n<t;
+          reverses = reversal-none n slot l slot≤n free found n<t;
         }
 
-    module _ (t≤n : t ≤ n) (n<len : n < length l) where
-      pub fell-less : (l′ : List ℕ) (d : ℕ) → d ≡ getD l t 0 → 1 < d → d < 65536 → l′ ≡ set l t (d - 1) → Fell n slot l l′ (Quiet 0)
-      fell-less l′ d d-is more small stored =
-          let more′ : 1 < getD l t 0 = omega arith in
+    module _ (t≤n : t ≤ n) where
+      pub fell-less : (l′ : List ℕ) (d : ℕ) → d ≡ getD l t 0 → 0 < d → l′ ≡ set l t (d - 1) → Fell n slot l l′ (Quiet 0)
+      fell-less l′ d d-is more stored =
+          let more′ : 0 < getD l t 0 = omega arith in
           record {
             size = ap length stored ∙ simp length-set;
             inside = tt;
-            answer = λ C f held. rw (stored, d-is) (quiet-less slot held free next t≤n n<len more′);
-            reverses = rw (stored, d-is) (reversal-less n slot l slot≤n free next t≤n n<len more′ (omega arith));
+            answer = λ C f held. rw (stored, d-is) (quiet-less slot held free slot≤n n<len found t≤n more′);
+            reverses = rw (stored, d-is) (reversal-less n slot l slot≤n free found t≤n n<len more′);
           }
 
-      module _ (one-left : getD l t 0 ≡ 1) {p : ℕ} (prev : Previous slot l p) (l′ : List ℕ) where
-        pub fell-join : 0 < p → l′ ≡ set (set l t (getD l p 0)) p 0 → Fell n slot l l′ (Quiet p)
+      module _ (last : getD l t 0 ≡ 0) {p : ℕ} (prev : Previous slot (gaps l) p) (l′ : List ℕ) where
+        pub fell-join : 0 < p → l′ ≡ set (set l t (getD l p 0)) p (1024 + (t - p - 1)) → Fell n slot l l′ (Quiet p)
         fell-join 0<p stored =
             record {
               size = ap length stored ∙ simp length-set;
               inside = tt;
-              answer = λ C f held. rw stored (quiet-join slot held free next t≤n n<len one-left prev 0<p);
-              reverses = rw stored (reversal-join n slot l slot≤n free next t≤n n<len one-left prev 0<p);
+              answer = λ C f held. rw stored (quiet-join slot held free slot≤n n<len found t≤n last prev 0<p);
+              reverses = rw stored
+                  (reversal-join n slot l slot≤n free found t≤n n<len last p (1024 + (t - p - 1)) (prev .before) 0<p
+                  (end-gaps l p 0<p (omega (arith, prev .before)) (prev .stands 0<p)));
             }
 
-        pub fell-spend : {z : ℕ} → p ≡ 0 → z ≡ getD l 0 0 → l′ ≡ set (set l t 0) 0 t → Fell n slot l l′ (Reached t z)
+        pub fell-spend : {z : ℕ} → p ≡ 0 → z ≡ getD l 0 0 → l′ ≡ set (set l t 1024) 0 t → Fell n slot l l′ (Reached t z)
         fell-spend none z-is stored =
             record {
               size = ap length stored ∙ simp length-set;
               inside = t≤n;
-              answer = λ C f held. rw stored (reached-spend slot held free next t≤n n<len one-left prev none);
-              reverses = rw (stored, z-is) (reversal-spend n slot l slot≤n free next t≤n n<len one-left);
+              answer = λ C f held. rw stored (reached-spend slot held free slot≤n n<len found t≤n last prev none);
+              reverses = rw (stored, z-is) (reversal-spend n slot l slot≤n free found t≤n n<len last);
             }
 
 -- ---- Answer

@@ -1,16 +1,17 @@
 -- The laws of `PreviousTurn` and `PreviousCorner` of specs/Built.antt: `straight-flat`, no corner of either kind where the line goes straight on;
 -- `turn-corner`, where it turns by the kind's own step there is one; the starts, steps and ends of the two searches; and `done-back`, the corners
--- after the corner that was found are done. No contract cites this file. Assumes nothing.
+-- after the corner that was found are done. `lesser-bounds`: the lesser of two numbers. No contract cites this file. Assumes nothing.
 use mathlib.Core.Path.{_≡_, refl, sym, _∙_}
-use mathlib.Core.Bool.{Bool, true, false, not}
+use mathlib.Core.Bool.{Bool, true, false, not, cond}
 use mathlib.Core.Logic.{dite}
 use mathlib.Core.List.{List}
 use Prim.Native.Nat.{ℕ, zero, suc, _+_, _-_, _≤_, _<_}
 use native.Mathlib.Nat.{add-zero}
-use native.Mathlib.Decide.{ℕ-discrete}
+use native.Mathlib.Decide.{ℕ-discrete, decLt}
 use native.Mathlib.Omega.{arith}
+use lib.Dec.{ltb}
 use lib.ListN.{getD}
-use borrow.Author.Tests.{eq-eqb, ne-eqb}
+use borrow.Author.Tests.{eq-eqb, ne-eqb, lt-ltb, le-ltb}
 use Rattle.domains.specs.Mask.{testBit}
 use Rattle.domains.specs.Counts.{bit}
 use Rattle.domains.proofs.MaskLaws.{testBit-lt}
@@ -76,3 +77,11 @@ pub done-back : {n : ℕ} {C : ℕ → Bool} {g h : ℕ → ℕ} {l : List ℕ} 
 done-back {t = t} {s = s} done found =
     let split : t - 1 ≡ s + (t - 1 - s) = omega (arith, found .before) in
     done-down s (t - 1 - s) (rw split at done) (λ i s<i i≤. found .none i s<i (omega (arith, found .before)))
+
+-- ---- the lesser of two numbers
+
+pub lesser-bounds : (x y r : ℕ) → r ≡ cond (ltb x y) x y → (r ≤ x) × (r ≤ y) × ((z : ℕ) → z ≤ x → z ≤ y → z ≤ r)
+lesser-bounds x y r r-is =
+    dite (decLt x y)
+    (λ less. let e : r ≡ x = r-is ∙ rw (lt-ltb x y less) refl in (omega arith, omega arith, λ z z≤x z≤y. omega arith))
+    (λ more. let e : r ≡ y = r-is ∙ rw (le-ltb x y (omega arith)) refl in (omega arith, omega arith, λ z z≤x z≤y. omega arith))

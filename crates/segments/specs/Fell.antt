@@ -9,8 +9,8 @@ use mathlib.Core.Bool.{Bool}
 use mathlib.Core.List.{List}
 use Prim.Native.Nat.{ℕ, _≤_, _<_}
 use lib.ListN.{length, getD}
-use Rattle.segments_model.specs.Cells.{Cells}
 use Rattle.segments_model.specs.Fall.{Quieted, Clashed, ReachedAt}
+use Rattle.segments_model.specs.Links.{Held}
 use Rattle.segments_model.specs.Raise.{Reversal}
 use Rattle.segments.specs.declared.Hit.{Hit}
 use Rattle.segments.specs.declared.Hit.the-variants.{Quiet, Clash, Reached}
@@ -33,5 +33,5 @@ Reverses n slot cells cells′ (Reached t x) = Reversal n slot x cells cells′
 pub record Fell (n slot : ℕ) (cells cells′ : List ℕ) (r : Hit) : Type 0 where
   pub size : length cells′ ≡ length cells
   pub inside : Inside n r
-  pub answer : (C : ℕ → Bool) (f : ℕ → ℕ) → Cells n C f cells → Answer n C f slot cells cells′ r
+  pub answer : (C : ℕ → Bool) (f : ℕ → ℕ) → Held n C f cells → Answer n C f slot cells cells′ r
   pub reverses : Reverses n slot cells cells′ r

@@ -1,19 +1,22 @@
 // The segments of one value and one kind of bound, kept in one cell for each prefix from 0 to n: built from the bound's rises and the masks,
-// brought up to date when the slack falls by one after a slot, put back as they were before such a fall, and counted. `lower` is the kind: true for the lower bound. Nothing is refused
-// here. The contracts cite `specs/Fell.antt` and `specs/Built.antt`, and the definitions of segments_model.
+// brought up to date when the slack falls by one after a slot, put back as they were before such a fall, and counted. Cell 0 is the spent corner.
+// A later cell below 1024 is a right end, one less than its gap; from 1024 on it is a link, 1024 to the next place, past which no right end is
+// jumped. `lower` is the kind: true for the lower bound. Nothing is refused here. The contracts cite `specs/Fell.antt` and `specs/Built.antt`, and
+// the definitions of segments_model.
 ghost use mathlib.Core.Path.{_≡_};
 ghost use mathlib.Core.Bool.{cond};
 ghost use Prim.Native.Nat.{_+_, _-_, _^_, _<_, _≤_};
-ghost use lib.Dec.{eqb};
+ghost use lib.Dec.{eqb, ltb};
 ghost use lib.ListN.{length, getD, set};
 ghost use Rattle.domains.specs.Mask.{testBit};
 ghost use Rattle.domains.specs.Counts.{bit};
-ghost use Rattle.segments_model.specs.Build.{Inserted, Counts};
+ghost use Rattle.segments_model.specs.Build.{Inserted, Pointed, Counts};
 ghost use Rattle.segments_model.specs.Cells.{standingIn};
 ghost use Rattle.segments_model.specs.Lines.{lineOf, cornerOf, tick};
+ghost use Rattle.segments_model.specs.Links.{gaps, Fresh, nextOf};
 ghost use Rattle.segments_model.specs.Part.{part, over, Lent};
 ghost use Rattle.segments_model.specs.Raise.{risen, Raisable};
-ghost use Rattle.segments_model.specs.Search.{Gap, Next, Previous};
+ghost use Rattle.segments_model.specs.Search.{Previous};
 ghost use Rattle.segments.specs.Built.{PreviousTurn, PreviousCorner, Visit, Built};
 ghost use Rattle.segments.specs.Fell.{Fell};
 
@@ -40,7 +43,7 @@ struct Totals {
 
 // Fills the cells of one value from its rises and the masks. False where a corner is broken.
 pub fn build(cells: &mut [u16], rises: &[u32], masks: &[u32], n: usize, v: u32, lower: bool) -> bool
-    requires { ⌜ (n < length (now cells)) × (n < length (now rises)) × (n ≤ length (now masks)) × (n < 65536) × (v < 32) ⌝ }
+    requires { ⌜ (n < length (now cells)) × (n < length (now rises)) × (n ≤ length (now masks)) × (n < 1024) × (v < 32) ⌝ }
     ensures { λ r. ⌜ Built lower n v (now (rises .entry)) (now (masks .entry)) (now (cells .entry)) (now (cells .exit)) r ⌝ }
 {
     blank(cells, n);
@@ -60,7 +63,7 @@ pub fn build_in(
     v: u32,
     lower: bool,
 ) -> bool
-    requires { ⌜ (base + n < length (now cells)) × (n < length (now rises)) × (n ≤ length (now masks)) × (n < 65536) × (v < 32) ⌝ }
+    requires { ⌜ (base + n < length (now cells)) × (n < length (now rises)) × (n ≤ length (now masks)) × (n < 1024) × (v < 32) ⌝ }
     ensures { λ r. ⌜ Lent base (n + 1) (λ a b. Built lower n v (now (rises .entry)) (now (masks .entry)) a b r)
         (now (cells .entry)) (now (cells .exit)) ⌝ }
 {
@@ -70,7 +73,7 @@ pub fn build_in(
 
 // Lowers the slack by one at each corner after the slot.
 pub fn fall(cells: &mut [u16], n: usize, slot: usize) -> Hit
-    requires { ⌜ (slot ≤ n) × (n < length (now cells)) × (n < 65536) ⌝ }
+    requires { ⌜ (slot ≤ n) × (n < length (now cells)) × (n < 1024) ⌝ }
     ensures { λ r. ⌜ Fell n slot (now (cells .entry)) (now (cells .exit)) r ⌝ }
 {
     if slot < wide(cells[0]) {
@@ -81,7 +84,7 @@ pub fn fall(cells: &mut [u16], n: usize, slot: usize) -> Hit
         return Hit::Quiet(0);
     }
     let d = wide(cells[t]);
-    if 1 < d {
+    if 0 < d {
         cells[t] = (d - 1) as u16;
         return Hit::Quiet(0);
     }
@@ -97,7 +100,7 @@ pub fn fall(cells: &mut [u16], n: usize, slot: usize) -> Hit
 
 // The same for the n + 1 cells from `base` on of a longer list, whose other cells stay.
 pub fn fall_in(cells: &mut [u16], base: usize, n: usize, slot: usize) -> Hit
-    requires { ⌜ (slot ≤ n) × (base + n < length (now cells)) × (n < 65536) ⌝ }
+    requires { ⌜ (slot ≤ n) × (base + n < length (now cells)) × (n < 1024) ⌝ }
     ensures { λ r. ⌜ Lent base (n + 1) (λ a b. Fell n slot a b r) (now (cells .entry)) (now (cells .exit)) ⌝ }
 {
     let end = base + n + 1;
@@ -106,7 +109,7 @@ pub fn fall_in(cells: &mut [u16], base: usize, n: usize, slot: usize) -> Hit
 
 // Takes a fall after the slot back, by the note that it left: the cells are as they were before it.
 pub fn raise(cells: &mut [u16], n: usize, slot: usize, note: usize)
-    requires { ⌜ (slot ≤ n) × (n < length (now cells)) × (n < 65536) × Raisable n slot note (now cells) ⌝ }
+    requires { ⌜ (slot ≤ n) × (n < length (now cells)) × (n < 1024) × Raisable n slot note (now cells) ⌝ }
     ensures { λ _. ⌜ now (cells .exit) ≡ risen n slot note (now (cells .entry)) ⌝ }
 {
     let z = wide(cells[0]);
@@ -127,7 +130,7 @@ pub fn raise(cells: &mut [u16], n: usize, slot: usize, note: usize)
 
 // The same for the n + 1 cells from `base` on of a longer list, whose other cells stay.
 pub fn raise_in(cells: &mut [u16], base: usize, n: usize, slot: usize, note: usize)
-    requires { ⌜ (slot ≤ n) × (base + n < length (now cells)) × (n < 65536) × Raisable n slot note (part base (n + 1) (now cells)) ⌝ }
+    requires { ⌜ (slot ≤ n) × (base + n < length (now cells)) × (n < 1024) × Raisable n slot note (part base (n + 1) (now cells)) ⌝ }
     ensures { λ _. ⌜ now (cells .exit) ≡ over base (n + 1) (risen n slot note) (now (cells .entry)) ⌝ }
 {
     let end = base + n + 1;
@@ -137,13 +140,13 @@ pub fn raise_in(cells: &mut [u16], base: usize, n: usize, slot: usize, note: usi
 // How many segments the cells hold.
 pub fn standing(cells: &[u16], n: usize) -> usize
     requires { ⌜ n < length (now cells) ⌝ }
-    ensures { λ r. ⌜ r ≡ standingIn (now (cells .entry)) n ⌝ }
+    ensures { λ r. ⌜ r ≡ standingIn (gaps (now (cells .entry))) n ⌝ }
 {
     let mut count: usize = 0;
     let mut t: usize = 0;
     while t < n {
         t += 1;
-        if cells[t] != 0 {
+        if cells[t] < 1024 {
             count += 1;
         }
     }
@@ -153,23 +156,24 @@ pub fn standing(cells: &[u16], n: usize) -> usize
 // The same for the n + 1 cells from `base` on.
 pub fn standing_in(cells: &[u16], base: usize, n: usize) -> usize
     requires { ⌜ base + n < length (now cells) ⌝ }
-    ensures { λ r. ⌜ r ≡ standingIn (part base (n + 1) (now (cells .entry))) n ⌝ }
+    ensures { λ r. ⌜ r ≡ standingIn (gaps (part base (n + 1) (now (cells .entry)))) n ⌝ }
 {
     let end = base + n + 1;
     standing(&cells[base..end], n)
 }
 
-// The first right end after the slot, or n + 1.
+// The first right end after the slot, or a place after n, by the links.
 fn next_standing(cells: &[u16], n: usize, slot: usize) -> usize
-    requires { ⌜ (slot ≤ n) × (n < length (now cells)) ⌝ }
-    ensures { λ r. ⌜ Next n slot (now (cells .entry)) r ⌝ }
+    requires { ⌜ (slot ≤ n) × (n < length (now cells)) × (n < 1024) ⌝ }
+    ensures { λ r. ⌜ r ≡ nextOf n slot (now (cells .entry)) ⌝ }
 {
     let mut t = slot + 1;
     while t <= n {
-        if cells[t] != 0 {
+        let c = wide(cells[t]);
+        if c < 1024 {
             return t;
         }
-        t += 1;
+        t = t + 1 + (c - 1024);
     }
     t
 }
@@ -177,11 +181,11 @@ fn next_standing(cells: &[u16], n: usize, slot: usize) -> usize
 // The last right end up to the slot, or 0.
 fn previous_standing(cells: &[u16], slot: usize) -> usize
     requires { ⌜ slot < length (now cells) ⌝ }
-    ensures { λ r. ⌜ Previous slot (now (cells .entry)) r ⌝ }
+    ensures { λ r. ⌜ Previous slot (gaps (now (cells .entry))) r ⌝ }
 {
     let mut p = slot;
     while 0 < p {
-        if cells[p] != 0 {
+        if cells[p] < 1024 {
             return p;
         }
         p -= 1;
@@ -192,54 +196,67 @@ fn previous_standing(cells: &[u16], slot: usize) -> usize
 // The leftmost segment, whose right end t has no slack left, is spent.
 fn spend(cells: &mut [u16], t: usize)
     requires { ⌜ (t < length (now cells)) × (t < 65536) ⌝ }
-    ensures { λ _. ⌜ now (cells .exit) ≡ set (set (now (cells .entry)) t 0) 0 t ⌝ }
+    ensures { λ _. ⌜ now (cells .exit) ≡ set (set (now (cells .entry)) t 1024) 0 t ⌝ }
 {
-    cells[t] = 0;
+    cells[t] = 1024;
     cells[0] = t as u16;
 }
 
 // The segment that ends at p is joined to the one that ends at t, whose slack has come down to that of p.
 fn join(cells: &mut [u16], p: usize, t: usize)
-    requires { ⌜ (p < length (now cells)) × (t < length (now cells)) ⌝ }
-    ensures { λ _. ⌜ now (cells .exit) ≡ set (set (now (cells .entry)) t (getD (now (cells .entry)) p 0)) p 0 ⌝ }
+    requires { ⌜ (p < t) × (t < length (now cells)) × (t < 1024) ⌝ }
+    ensures { λ _. ⌜ now (cells .exit) ≡ set (set (now (cells .entry)) t (getD (now (cells .entry)) p 0)) p (1024 + (t - p - 1)) ⌝ }
 {
     cells[t] = cells[p];
-    cells[p] = 0;
+    cells[p] = (1024 + (t - p - 1)) as u16;
 }
 
 // The segment that was spent up to t stands again, and the spent corner is z.
 fn unspend(cells: &mut [u16], t: usize, z: usize)
     requires { ⌜ (t < length (now cells)) × (z < 65536) ⌝ }
-    ensures { λ _. ⌜ now (cells .exit) ≡ set (set (now (cells .entry)) t 1) 0 z ⌝ }
+    ensures { λ _. ⌜ now (cells .exit) ≡ set (set (now (cells .entry)) t 0) 0 z ⌝ }
 {
-    cells[t] = 1;
+    cells[t] = 0;
     cells[0] = z as u16;
 }
 
 // The segment that ends at t is parted again from the one that ends at p.
 fn split(cells: &mut [u16], p: usize, t: usize)
     requires { ⌜ (p < length (now cells)) × (t < length (now cells)) ⌝ }
-    ensures { λ _. ⌜ now (cells .exit) ≡ set (set (now (cells .entry)) p (getD (now (cells .entry)) t 0)) t 1 ⌝ }
+    ensures { λ _. ⌜ now (cells .exit) ≡ set (set (now (cells .entry)) p (getD (now (cells .entry)) t 0)) t 0 ⌝ }
 {
     cells[p] = cells[t];
-    cells[t] = 1;
+    cells[t] = 0;
 }
 
-// Empties the cells up to n.
+// Empties the cells up to n: no spent corner, and links to the next place.
 fn blank(cells: &mut [u16], n: usize)
     requires { ⌜ n < length (now cells) ⌝ }
-    ensures { λ _. ⌜ (length (now (cells .exit)) ≡ length (now (cells .entry))) × Gap (now (cells .exit)) 0 (n + 1) ⌝ }
+    ensures { λ _. ⌜ (length (now (cells .exit)) ≡ length (now (cells .entry))) × (getD (now (cells .exit)) 0 0 ≡ 0) × Fresh n (now (cells .exit)) ⌝ }
 {
-    let mut t: usize = 0;
+    cells[0] = 0;
+    let mut t: usize = 1;
     while t <= n {
-        cells[t] = 0;
+        cells[t] = 1024;
         t += 1;
+    }
+}
+
+// Makes the cells from `from` on and before `past` links to `next`.
+fn point(cells: &mut [u16], from: usize, past: usize, next: usize)
+    requires { ⌜ (from ≤ past) × (past ≤ length (now cells)) × (past ≤ next) × (next ≤ 1024) ⌝ }
+    ensures { λ _. ⌜ Pointed from past next (now (cells .entry)) (now (cells .exit)) ⌝ }
+{
+    let mut i = from;
+    while i < past {
+        cells[i] = (1024 + (next - i - 1)) as u16;
+        i += 1;
     }
 }
 
 // The line and the count at n.
 fn count_all(rises: &[u32], masks: &[u32], n: usize, v: u32, lower: bool) -> Totals
-    requires { ⌜ (n < length (now rises)) × (n ≤ length (now masks)) × (n < 65536) × (v < 32) ⌝ }
+    requires { ⌜ (n < length (now rises)) × (n ≤ length (now masks)) × (n < 1024) × (v < 32) ⌝ }
     ensures { λ r. ⌜ Counts lower (now (rises .entry)) (now (masks .entry)) v n (r .risen) (r .counted) ⌝ }
 {
     let mut risen: u32 = 0;
@@ -295,8 +312,8 @@ fn fill(
     risen: u32,
     counted: u32,
 ) -> bool
-    requires { ⌜ (n < length (now cells)) × (n < length (now rises)) × (n ≤ length (now masks)) × (n < 65536) × (v < 32)
-        × Counts lower (now rises) (now masks) v n risen counted × Gap (now cells) 0 (n + 1) ⌝ }
+    requires { ⌜ (n < length (now cells)) × (n < length (now rises)) × (n ≤ length (now masks)) × (n < 1024) × (v < 32)
+        × Counts lower (now rises) (now masks) v n risen counted × (getD (now cells) 0 0 ≡ 0) × Fresh n (now cells) ⌝ }
     ensures { λ r. ⌜ Built lower n v (now (rises .entry)) (now (masks .entry)) (now (cells .entry)) (now (cells .exit)) r ⌝ }
 {
     let mut r = risen;
@@ -312,6 +329,8 @@ fn fill(
         };
         next = first;
         let s = previous_corner(rises, n, v, lower, t);
+        let past = lesser(t + 1, next);
+        point(cells, s + 1, past, next);
         let before = count_back(rises, masks, v, lower, s, t, r, k);
         r = before.risen;
         k = before.counted;
@@ -360,7 +379,7 @@ fn visit(
     lost: usize,
     next: usize,
 ) -> Visited
-    requires { ⌜ (0 < t) × (t ≤ n) × (n < length (now cells)) × (n < 65536) × (gained < 65536) × (t < next) ⌝ }
+    requires { ⌜ (0 < t) × (t ≤ n) × (n < length (now cells)) × (n < 1024) × (gained < 1024) × (t < next) ⌝ }
     ensures { λ r. ⌜ Visit n t corner gained lost next (now (cells .entry)) (now (cells .exit)) r ⌝ }
 {
     if !corner {
@@ -375,7 +394,7 @@ fn visit(
 
 // Adds the corner t with slack x before those that the cells hold, of which the first right end is at next. The first right end after it.
 fn insert(cells: &mut [u16], n: usize, t: usize, x: usize, next: usize) -> usize
-    requires { ⌜ (0 < t) × (t ≤ n) × (n < length (now cells)) × (n < 65536) × (x < 65536) × (t < next) ⌝ }
+    requires { ⌜ (0 < t) × (t ≤ n) × (n < length (now cells)) × (n < 1024) × (x < 1024) × (t < next) ⌝ }
     ensures { λ r. ⌜ Inserted n t x next (now (cells .entry)) (now (cells .exit)) r ⌝ }
 {
     if cells[0] != 0 {
@@ -386,15 +405,15 @@ fn insert(cells: &mut [u16], n: usize, t: usize, x: usize, next: usize) -> usize
         return next;
     }
     if n < next {
-        cells[t] = x as u16;
+        cells[t] = (x - 1) as u16;
         return t;
     }
     let y = wide(cells[next]);
-    if y <= x {
+    if y < x {
         return next;
     }
     cells[next] = (y - x) as u16;
-    cells[t] = x as u16;
+    cells[t] = (x - 1) as u16;
     t
 }
 
@@ -456,6 +475,15 @@ fn choose(b: bool, x: u32, y: u32) -> usize
         return x as usize;
     }
     y as usize
+}
+
+fn lesser(x: usize, y: usize) -> usize
+    ensures { λ r. ⌜ r ≡ cond (ltb x y) x y ⌝ }
+{
+    if x < y {
+        return x;
+    }
+    y
 }
 
 fn wide(x: u16) -> usize

@@ -1,5 +1,5 @@
 -- The laws of `Spent` and `Cells` of specs/Cells.antt. `cells-unique`, `cells-unique-list`: one list of cells for each n, C and f.
--- `cells-same`: only the corners and slacks of the prefixes 1 to n matter. No contract cites this file. Assumes nothing.
+-- `cells-same`, `held-same`: only the corners and slacks of the prefixes 1 to n matter. No contract cites this file. Assumes nothing.
 use mathlib.Core.Path.{_≡_, sym, _∙_}
 use mathlib.Core.Bool.{Bool}
 use mathlib.Core.Logic.{dite}
@@ -10,6 +10,7 @@ use native.Mathlib.Omega.{arith}
 use lib.ListN.{length, getD}
 use lib.Seq.{ext-getD}
 use Rattle.segments_model.specs.Cells.{sumTo, Stands, Spent, Cells}
+use Rattle.segments_model.specs.Links.{gaps, Held}
 use Rattle.segments_model.proofs.SumLaws.{upTo-none, upTo-suc}
 
 -- ---- one list of cells
@@ -69,3 +70,8 @@ module _ (n : ℕ) (C D : ℕ → Bool) (f g : ℕ → ℕ) (cells : List ℕ) w
         held = λ t 0<t t≤n stands. held .held t 0<t t≤n (stands-same corners-back slacks-back 0<t t≤n stands);
         sums = λ t 0<t t≤n stands. held .sums t 0<t t≤n (stands-same corners-back slacks-back 0<t t≤n stands) ∙ slacks t 0<t t≤n;
       }
+
+pub held-same : (n : ℕ) (C D : ℕ → Bool) (f g : ℕ → ℕ) (cells : List ℕ)
+    → ((i : ℕ) → 0 < i → i ≤ n → C i ≡ D i) → ((i : ℕ) → 0 < i → i ≤ n → f i ≡ g i) → Held n C f cells → Held n D g cells
+held-same n C D f g cells corners slacks held =
+    record { cells = cells-same n C D f g (gaps cells) corners slacks (held .cells); linked = held .linked }

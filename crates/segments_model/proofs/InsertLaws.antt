@@ -4,16 +4,19 @@ use mathlib.Core.Path.{_≡_, refl, sym, ap, _∙_, subst}
 use mathlib.Core.Bool.{Bool, true}
 use mathlib.Core.Logic.{dite}
 use mathlib.Core.List.{List}
-use Prim.Native.Nat.{ℕ, _-_, _≤_, _<_}
+use Prim.Native.Nat.{ℕ, _+_, _-_, _≤_, _<_}
 use native.Mathlib.Decide.{ℕ-discrete, decLt}
 use native.Mathlib.Omega.{arith}
 use lib.ListN.{length, getD, set, length-set}
 use lib.Seq.{getD-set-same, getD-set-other}
 use Rattle.segments_model.specs.Cells.{sumTo}
 use Rattle.segments_model.specs.Covers.{Cover}
-use Rattle.segments_model.specs.Build.{Filling, Inserted}
+use Rattle.segments_model.specs.Build.{Filling, Laid, Inserted}
+use Rattle.segments_model.specs.Links.{gapOf, gaps, Fresh}
 use Rattle.segments_model.proofs.SumLaws.{upTo-none, upTo-flat, upTo-last, sumTo-set-after}
 use Rattle.segments_model.proofs.FillingLaws.{before-first, from-first, filling-spent, filling-behind, filling-zero}
+use Rattle.segments_model.proofs.LinksLaws.{gapOf-end, gaps-length, gaps-first, gaps-set, gaps-set-first, gaps-end, end-gaps}
+use Rattle.segments_model.proofs.LinkedLaws.{linked-set, linked-set-first, linked-insert}
 
 -- ---- t is a right end
 
@@ -101,30 +104,89 @@ module _ {n : ℕ} {C : ℕ → Bool} {f : ℕ → ℕ} {t : ℕ} {l : List ℕ}
 -- ---- Inserted
 
 module _ (n t x q : ℕ) (l : List ℕ) (0<t : 0 < t) (t≤n : t ≤ n) (n<len : n < length l) where
-  pub inserted-spent : 0 < getD l 0 0 → Inserted n t x q l l q
-  inserted-spent some = record { size = refl; filling = λ C f done corner slack. filling-spent done 0<t some }
+  n<gaps : n < length (gaps l)
+  n<gaps = omega (arith, gaps-length l)
 
-  pub inserted-behind : q ≤ n → getD l q 0 ≤ x → Inserted n t x q l l q
-  inserted-behind q≤n low = record { size = refl; filling = λ C f done corner slack. filling-behind done 0<t q≤n (omega arith) }
+  -- the cells stay
+  laid-stays : {C : ℕ → Bool} {f : ℕ → ℕ} → Laid n C f t l q → Filling n C f (t - 1) (gaps l) q → Laid n C f (t - 1) l q
+  laid-stays laid filling = record { filling = filling; linked = laid .linked; fresh = λ i 0<i i<t. laid .fresh i 0<i (omega arith) }
+
+  pub inserted-spent : 0 < getD l 0 0 → Inserted n t x q l l q
+  inserted-spent some =
+      record {
+        size = refl;
+        laid = λ C f laid corner slack. laid-stays laid (filling-spent (laid .filling) 0<t (omega (arith, gaps-first l)));
+      }
+
+  -- the cell of a right end is one less than its gap
+  first-end : {C : ℕ → Bool} {f : ℕ → ℕ} → Laid n C f t l q → q ≤ n → (getD l q 0 < 1024) × (getD (gaps l) q 0 ≡ getD l q 0 + 1)
+  first-end laid q≤n =
+      let first = laid .filling .first in
+      let 0<q : 0 < q = omega (arith, first .after) in
+      let end = end-gaps l q 0<q (omega arith) (first .stands q≤n) in
+      (end, gaps-end l q 0<q (omega arith) end)
+
+  pub inserted-behind : q ≤ n → getD l q 0 < x → Inserted n t x q l l q
+  inserted-behind q≤n low =
+      record {
+        size = refl;
+        laid = λ C f laid corner slack. laid-stays laid (filling-behind (laid .filling) 0<t q≤n (omega (arith, first-end laid q≤n .1)));
+      }
 
   module _ (none : getD l 0 0 ≡ 0) where
+    none-gaps : getD (gaps l) 0 0 ≡ 0
+    none-gaps = gaps-first l ∙ none
+
     pub inserted-zero : x ≡ 0 → Inserted n t x q l (set l 0 t) q
     inserted-zero no-slack =
-        record { size = length-set l 0 t; filling = λ C f done corner slack. filling-zero done 0<t t≤n n<len none corner (slack ∙ no-slack) }
-
-    pub inserted-alone : 0 < x → n < q → Inserted n t x q l (set l t x) t
-    inserted-alone some n<q =
         record {
-          size = length-set l t x;
-          filling = λ C f done corner slack.
-              subst (λ (y : ℕ). Filling n C f (t - 1) (set l t y) t) slack (filling-alone done 0<t t≤n n<len none corner (omega arith) n<q);
+          size = length-set l 0 t;
+          laid = λ C f laid corner slack.
+              record {
+                filling = rw (gaps-set-first l t) (filling-zero (laid .filling) 0<t t≤n n<gaps none-gaps corner (slack ∙ no-slack));
+                linked = linked-set-first l t n<len (laid .linked);
+                fresh = λ i 0<i i<t. getD-set-other l 0 i t 0 (λ e. omega arith) ∙ laid .fresh i 0<i (omega arith);
+              };
         }
 
-    pub inserted-before : 0 < x → q ≤ n → x < getD l q 0 → Inserted n t x q l (set (set l q (getD l q 0 - x)) t x) t
-    inserted-before some q≤n less =
-        record {
-          size = simp length-set;
-          filling = λ C f done corner slack.
-              subst (λ (y : ℕ). Filling n C f (t - 1) (set (set l q (getD l q 0 - y)) t y) t) slack
-              (filling-before done 0<t t≤n n<len none corner (omega arith) q≤n (omega arith));
-        }
+    module _ (some : 0 < x) (x≤n : x ≤ 1024) where
+      own-gap : gapOf (x - 1) ≡ x
+      own-gap = gapOf-end (x - 1) (omega arith) ∙ omega arith
+
+      pub inserted-alone : n < q → Inserted n t x q l (set l t (x - 1)) t
+      inserted-alone n<q =
+          record {
+            size = length-set l t (x - 1);
+            laid = λ C f laid corner slack.
+                record {
+                  filling =
+                      rw (gaps-set l t (x - 1) 0<t, own-gap)
+                      (subst (λ (y : ℕ). Filling n C f (t - 1) (set (gaps l) t y) t) slack
+                      (filling-alone (laid .filling) 0<t t≤n n<gaps none-gaps corner (omega arith) n<q));
+                  linked = linked-insert l t (x - 1) 0<t (omega arith) (laid .linked) (laid .fresh) (omega arith);
+                  fresh = λ i 0<i i<t. getD-set-other l t i (x - 1) 0 (λ e. omega arith) ∙ laid .fresh i 0<i (omega arith);
+                };
+          }
+
+      pub inserted-before : q ≤ n → x ≤ getD l q 0 → Inserted n t x q l (set (set l q (getD l q 0 - x)) t (x - 1)) t
+      inserted-before q≤n less =
+          record {
+            size = simp length-set;
+            laid = λ C f laid corner slack.
+                let y = getD l q 0 - x in
+                let l₁ = set l q y in
+                let t<q : t < q = laid .filling .first .after in
+                let end = first-end laid q≤n in
+                let rest : gapOf y ≡ getD (gaps l) q 0 - x = gapOf-end y (omega (arith, end .0)) ∙ omega (arith, end .1) in
+                let fresh : Fresh t l₁ = λ i 0<i i≤t. getD-set-other l q i y 0 (λ e. omega arith) ∙ laid .fresh i 0<i i≤t in
+                record {
+                  filling =
+                      rw (gaps-set l₁ t (x - 1) 0<t, gaps-set l q y (omega arith), own-gap, rest)
+                      (subst (λ (w : ℕ). Filling n C f (t - 1) (set (set (gaps l) q (getD (gaps l) q 0 - w)) t w) t) slack
+                      (filling-before (laid .filling) 0<t t≤n n<gaps none-gaps corner (omega arith) q≤n (omega (arith, end .1))));
+                  linked = linked-insert l₁ t (x - 1) 0<t (omega (arith, length-set l q y))
+                      (linked-set l q y (omega arith) (omega arith) (laid .linked) (λ empty. absurd (omega (arith, end .1)))
+                      (λ link. absurd (omega (arith, end .0)))) fresh (omega arith);
+                  fresh = λ i 0<i i<t. getD-set-other l₁ t i (x - 1) 0 (λ e. omega arith) ∙ fresh i 0<i (omega arith);
+                };
+          }

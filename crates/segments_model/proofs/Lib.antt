@@ -8,6 +8,8 @@ pub mod FillingLaws
 pub mod InsertLaws
 pub mod JoinLaws
 pub mod LinesLaws
+pub mod LinkedLaws
+pub mod LinksLaws
 pub mod LowestLaws
 pub mod PartLaws
 pub mod RaiseLaws

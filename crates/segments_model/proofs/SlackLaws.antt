@@ -11,11 +11,11 @@ use native.Mathlib.Omega.{arith}
 use lib.ListN.{length, getD, set}
 use lib.Seq.{getD-set-same, getD-set-other}
 use borrow.Author.Tests.{lt-ltb, le-ltb}
-use Rattle.segments_model.specs.Cells.{Cells}
 use Rattle.segments_model.specs.Fall.{fallen, MoreThan}
 use Rattle.segments_model.specs.Lines.{cornerOf, tick, countOf, gain, loss, slackOf, Change, BrokenAt, Segments}
+use Rattle.segments_model.specs.Links.{Held}
 use Rattle.segments_model.proofs.SumLaws.{count-before, count-after}
-use Rattle.segments_model.proofs.CellsLaws.{cells-same}
+use Rattle.segments_model.proofs.CellsLaws.{held-same}
 use Rattle.segments_model.proofs.LinesLaws.{cornerOf-same}
 
 -- ---- slackOf, where one mask changes
@@ -64,17 +64,17 @@ module _ (u : ℕ → ℕ) (M : List ℕ) (s m : ℕ) (inside : s < length M) (v
       segments-stays change =
           record {
             held =
-                cells-same n (cornerOf kind n u) (cornerOf kind n u) (slackOf kind u M v) (slackOf kind u (set M s m) v) cells (λ t 0<t t≤n. refl)
+                held-same n (cornerOf kind n u) (cornerOf kind n u) (slackOf kind u M v) (slackOf kind u (set M s m) v) cells (λ t 0<t t≤n. refl)
                 (λ t 0<t t≤n. slackOf-stays change t) (segments .held);
             kept = λ t 0<t t≤n corner. omega (arith, segments .kept t 0<t t≤n corner, change-none change t);
           }
 
-      pub segments-falls : (cells′ : List ℕ) → Change kind (getD M s 0) m v 1 → Cells n (cornerOf kind n u) (fallen (slackOf kind u M v) s) cells′
+      pub segments-falls : (cells′ : List ℕ) → Change kind (getD M s 0) m v 1 → Held n (cornerOf kind n u) (fallen (slackOf kind u M v) s) cells′
           → MoreThan n (cornerOf kind n u) (slackOf kind u M v) s 0 → Segments kind n u (set M s m) v cells′
       segments-falls cells′ change fell more =
           record {
             held =
-                cells-same n (cornerOf kind n u) (cornerOf kind n u) (fallen (slackOf kind u M v) s) (slackOf kind u (set M s m) v) cells′
+                held-same n (cornerOf kind n u) (cornerOf kind n u) (fallen (slackOf kind u M v) s) (slackOf kind u (set M s m) v) cells′
                 (λ t 0<t t≤n. refl) (λ t 0<t t≤n. slackOf-falls change t) fell;
             kept = λ t 0<t t≤n corner.
                 dite (decLt s t) (λ s<t. omega (arith, more t s<t t≤n corner, change-after kind t 1 change s<t))
@@ -95,7 +95,7 @@ module _ (kind : Bool) {n : ℕ} {u w : ℕ → ℕ} (same : (i : ℕ) → i ≤
   segments-same {cells} segments =
       record {
         held =
-            cells-same n (cornerOf kind n u) (cornerOf kind n w) (slackOf kind u M v) (slackOf kind w M v) cells
+            held-same n (cornerOf kind n u) (cornerOf kind n w) (slackOf kind u M v) (slackOf kind w M v) cells
             (λ t 0<t t≤n. cornerOf-same kind n u w same t t≤n) (λ t 0<t t≤n. ap₂ _-_ (gain-same kind t t≤n) (loss-same kind t t≤n)) (segments .held);
         kept = λ t 0<t t≤n corner.
             omega (arith, segments .kept t 0<t t≤n (cornerOf-same kind n u w same t t≤n ∙ corner), gain-same kind t t≤n, loss-same kind t t≤n);

@@ -11,7 +11,8 @@ use lib.ListN.{getD}
 use lib.Dec.{eqb, ltb, leb}
 use borrow.Author.Tests.{lt-ltb, le-ltb, ltb-true, le-leb, leb-true, eq-eqb, eqb-true}
 use Rattle.domains.specs.Counts.{bit}
-use Rattle.segments_model.specs.Cells.{upTo, Stands, Cells, standingIn, standsAt, standing}
+use Rattle.segments_model.specs.Cells.{upTo, Stands, standingIn, standsAt, standing}
+use Rattle.segments_model.specs.Links.{gaps, Held}
 use Rattle.segments_model.proofs.SumLaws.{upTo-none, upTo-next, upTo-grows, upTo-above, upTo-ext, upTo-flat}
 
 -- ---- standingIn
@@ -80,12 +81,13 @@ module _ (n : ℕ) (C : ℕ → Bool) (f : ℕ → ℕ) (t : ℕ) where
 
 -- ---- standing
 
-pub standing-words : (n : ℕ) (C : ℕ → Bool) (f : ℕ → ℕ) (cells : List ℕ) → Cells n C f cells → standingIn cells n ≡ standing n C f
+pub standing-words : (n : ℕ) (C : ℕ → Bool) (f : ℕ → ℕ) (cells : List ℕ) → Held n C f cells → standingIn (gaps cells) n ≡ standing n C f
 standing-words n C f cells held =
-    upTo-ext (λ t. bit (ltb 0 (getD cells t 0))) (λ t. bit (standsAt n C f t)) n
+    let stood = held .cells in
+    upTo-ext (λ t. bit (ltb 0 (getD (gaps cells) t 0))) (λ t. bit (standsAt n C f t)) n
     (λ t 0<t t≤n.
-    dite (decLt 0 (getD cells t 0))
-    (λ some. ap bit (lt-ltb 0 (getD cells t 0) some ∙ sym (stands-standsAt n C f t (held .stands t 0<t t≤n some))))
+    dite (decLt 0 (getD (gaps cells) t 0))
+    (λ some. ap bit (lt-ltb 0 (getD (gaps cells) t 0) some ∙ sym (stands-standsAt n C f t (stood .stands t 0<t t≤n some))))
     (λ none.
-    ap bit (le-ltb 0 (getD cells t 0) (omega arith))
-    ∙ sym (bit-false (standsAt n C f t) (λ e. none (held .held t 0<t t≤n (standsAt-stands n C f t e))))))
+    ap bit (le-ltb 0 (getD (gaps cells) t 0) (omega arith))
+    ∙ sym (bit-false (standsAt n C f t) (λ e. none (stood .held t 0<t t≤n (standsAt-stands n C f t e))))))

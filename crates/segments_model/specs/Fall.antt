@@ -13,7 +13,7 @@ use Prim.Native.Nat.{ℕ, _-_, _≤_, _<_}
 use lib.Dec.{ltb}
 use lib.ListN.{getD}
 use Rattle.domains.specs.Counts.{bit}
-use Rattle.segments_model.specs.Cells.{Cells}
+use Rattle.segments_model.specs.Links.{Held}
 
 abbrev pub fallen : (ℕ → ℕ) → ℕ → ℕ → ℕ
 fallen f slot u = f u - bit (ltb slot u)
@@ -28,7 +28,7 @@ pub record Meets (n : ℕ) (C : ℕ → Bool) (f : ℕ → ℕ) (slot d t : ℕ)
   pub slack : f t ≡ d
 
 pub record Quieted (n : ℕ) (C : ℕ → Bool) (f : ℕ → ℕ) (slot : ℕ) (cells′ : List ℕ) : Type 0 where
-  pub cells : Cells n C (fallen f slot) cells′
+  pub held : Held n C (fallen f slot) cells′
   pub more : MoreThan n C f slot 1
 
 pub record Clashed (n : ℕ) (C : ℕ → Bool) (f : ℕ → ℕ) (slot : ℕ) (cells cells′ : List ℕ) : Type 0 where
@@ -36,7 +36,7 @@ pub record Clashed (n : ℕ) (C : ℕ → Bool) (f : ℕ → ℕ) (slot : ℕ) (
   pub meets : Meets n C f slot 0 (getD cells 0 0)
 
 pub record ReachedAt (n : ℕ) (C : ℕ → Bool) (f : ℕ → ℕ) (slot : ℕ) (cells′ : List ℕ) (t : ℕ) : Type 0 where
-  pub cells : Cells n C (fallen f slot) cells′
+  pub held : Held n C (fallen f slot) cells′
   pub more : MoreThan n C f slot 0
   pub meets : Meets n C f slot 1 t
   pub past : MoreThan n C f t 1

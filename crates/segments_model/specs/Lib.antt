@@ -3,6 +3,7 @@ pub mod Cells
 pub mod Covers
 pub mod Fall
 pub mod Lines
+pub mod Links
 pub mod Part
 pub mod Raise
 pub mod Search

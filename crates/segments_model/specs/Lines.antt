@@ -18,7 +18,8 @@ use lib.Dec.{eqb}
 use lib.ListN.{getD}
 use Rattle.domains.specs.Mask.{testBit}
 use Rattle.domains.specs.Counts.{count, only, countHas, countFixed}
-use Rattle.segments_model.specs.Cells.{upTo, Cells}
+use Rattle.segments_model.specs.Cells.{upTo}
+use Rattle.segments_model.specs.Links.{Held}
 
 -- ---- the line
 abbrev pub lineOf : List ℕ → ℕ → ℕ → ℕ
@@ -70,5 +71,5 @@ abbrev pub BrokenAt : Bool → ℕ → (ℕ → ℕ) → List ℕ → ℕ → �
 BrokenAt kind n u M v t = Broken n (cornerOf kind n u) (gain kind u M v) (loss kind u M v) t
 
 pub record Segments (kind : Bool) (n : ℕ) (u : ℕ → ℕ) (M : List ℕ) (v : ℕ) (cells : List ℕ) : Type 0 where
-  pub held : Cells n (cornerOf kind n u) (slackOf kind u M v) cells
+  pub held : Held n (cornerOf kind n u) (slackOf kind u M v) cells
   pub kept : Unbroken n (cornerOf kind n u) (gain kind u M v) (loss kind u M v) 0

@@ -3,6 +3,7 @@
 use mathlib.Core.Path.{refl}
 use native.Mathlib.Omega.{arith}
 use borrow.Author.Needs.{needs}
+use Rattle.segments_model.proofs.LinksLaws.{next-after}
 use Rattle.segments.proofs.FellLaws.{fell-clash, fell-none, fell-less, fell-join, fell-spend}
 use Rattle.segments.proofs.fall.Statement.{statement}
 use Rattle.segments.proofs.fall.Tie as tie
@@ -14,7 +15,8 @@ wide-requires : tie.Need-wide-requires
 wide-requires c κs = search needs
 
 returns : tie.Need-returns
-returns c = fell-clash _ _ _ (omega arith)
+returns c =
+    fell-clash _ _ _ (omega arith)
 
 next-standing-requires : tie.Need-next-standing-requires
 next-standing-requires c κs = search needs
@@ -24,8 +26,7 @@ same-length c = search needs
 
 returns-2 : tie.Need-returns-2
 returns-2 c =
-    let pre = c .before .before .before .before .before .before .before .pre in
-    fell-none _ _ _ (pre .0) (omega arith) (c .before .next-standing .ensures) (omega arith)
+    fell-none _ _ _ (c .before .before .before .before .before .before .before .pre .0) (c .before .before .before .before .before .before .before .pre .1) (omega arith) (c .before .next-standing .ensures) (omega arith)
 
 mul-wide : tie.Need-mul-wide
 mul-wide c = search needs
@@ -53,10 +54,8 @@ same-length-2 c = search needs
 
 returns-3 : tie.Need-returns-3
 returns-3 c =
-    let next-standing = c .before .before .before .before .next-standing in
-    let pre = c .before .before .before .before .before .before .before .before .before .before .pre in
     let d = c .before .wide2 .ensures in
-    fell-less _ _ _ (pre .0) (omega arith) (next-standing .ensures) (omega arith) (omega arith) _ _ (d .0) (omega arith) (d .1) refl
+    fell-less _ _ _ (c .before .before .before .before .before .before .before .before .before .before .pre .0) (c .before .before .before .before .before .before .before .before .before .before .pre .1) (omega arith) (c .before .before .before .before .next-standing .ensures) (omega arith) _ _ (d .0) (omega arith) refl
 
 previous-standing-requires : tie.Need-previous-standing-requires
 previous-standing-requires c κs = search needs
@@ -75,38 +74,25 @@ same-length-3 c = search needs
 
 returns-4 : tie.Need-returns-4
 returns-4 c =
-    let spend = c .before .before .spend in
-    let wide3 = c .before .before .before .before .wide3 in
-    let previous-standing = c .before .before .before .before .before .before .before .previous-standing in
-    let wide2 = c .before .before .before .before .before .before .before .before .before .before .wide2 in
-    let next-standing = c .before .before .before .before .before .before .before .before .before .before .before .before .before .next-standing in
-    let pre = c .before .before .before .before .before .before .before .before .before .before .before .before .before .before .before .before .before
-    .before .before .pre in
-    let next = next-standing .ensures in
-    let d = wide2 .ensures in
-    let one-left = next .stands (omega arith) in
-    fell-spend _ _ _ (pre .0) (omega arith) next (omega arith) (omega arith) (omega (arith, d .0, one-left)) (previous-standing .ensures) _
-    (omega arith) (wide3 .ensures .0) (spend .ensures)
+    let next = c .before .before .before .before .before .before .before .before .before .before .before .before .before .next-standing .ensures in
+    let d = c .before .before .before .before .before .before .before .before .before .before .wide2 .ensures in
+    fell-spend _ _ _ (c .before .before .before .before .before .before .before .before .before .before .before .before .before .before .before .before .before .before .before .pre .0) (c .before .before .before .before .before .before .before .before .before .before .before .before .before .before .before .before .before .before .before .pre .1) (omega arith) next (omega arith) (omega (arith, d .0)) (c .before .before .before .before .before .before .before .previous-standing .ensures) _ (omega arith)
+    (c .before .before .before .before .wide3 .ensures .0) (c .before .before .spend .ensures)
 
 join-requires : tie.Need-join-requires
-join-requires c κs = search needs
+join-requires c κs =
+    let after = next-after (c .before .before .before .before .before .before .before .before .before .before .before .before .before .before .pre .0) (c .before .before .before .before .before .before .before .before .before .before .before .before .before .before .args .cells .now) (c .before .before .before .before .before .before .before .before .next-standing .ensures) in
+    omega (arith, after, c .before .before .previous-standing .ensures .before)
 
 same-length-4 : tie.Need-same-length-4
 same-length-4 c = search needs
 
 returns-5 : tie.Need-returns-5
 returns-5 c =
-    let join = c .before .before .join in
-    let previous-standing = c .before .before .before .before .before .previous-standing in
-    let wide2 = c .before .before .before .before .before .before .before .before .wide2 in
-    let next-standing = c .before .before .before .before .before .before .before .before .before .before .before .next-standing in
-    let pre = c .before .before .before .before .before .before .before .before .before .before .before .before .before .before .before .before .before
-    .pre in
-    let next = next-standing .ensures in
-    let d = wide2 .ensures in
-    let one-left = next .stands (omega arith) in
-    fell-join _ _ _ (pre .0) (omega arith) next (omega arith) (omega arith) (omega (arith, d .0, one-left)) (previous-standing .ensures) _
-    (omega arith) (join .ensures)
+    let next = c .before .before .before .before .before .before .before .before .before .before .before .next-standing .ensures in
+    let d = c .before .before .before .before .before .before .before .before .wide2 .ensures in
+    fell-join _ _ _ (c .before .before .before .before .before .before .before .before .before .before .before .before .before .before .before .before .before .pre .0) (c .before .before .before .before .before .before .before .before .before .before .before .before .before .before .before .before .before .pre .1) (omega arith) next (omega arith) (omega (arith, d .0)) (c .before .before .before .before .before .previous-standing .ensures) _ (omega arith)
+    (c .before .before .join .ensures)
 
 pub fall-spec : {M : Type 1} → statement M
 fall-spec =

@@ -1,16 +1,16 @@
 -- `segments::fill` meets its contract. The invariant: t is at most n, the list is as long as it was, the counts stand at t (`Counts`), and the
--- corners after t are done (`DoneAfter`). The measure is t. One turn: `turn-onward` and `done-back`; it ends with `turn-broken` or
+-- corners after t are done (`DoneAfter`). The measure is t. One turn: `turn-onward`, `done-back` and `done-point`; it ends with `turn-broken` or
 -- `built-all`. Assumes nothing.
 use mathlib.Core.Path.{_≡_, refl}
-use Prim.Native.Nat.{_≤_}
+use Prim.Native.Nat.{_+_, _≤_}
 use native.Mathlib.Omega.{arith}
 use borrow.Author.Needs.{needs}
 use lib.ListN.{length}
 use Rattle.segments_model.specs.Build.{Counts}
-use Rattle.segments_model.proofs.BuildLaws.{done-none}
+use Rattle.segments_model.proofs.BuildLaws.{done-none, done-point}
 use Rattle.segments_model.proofs.CountsLaws.{choice-bound}
 use Rattle.segments.proofs.BuiltLaws.{DoneAfter, turn-broken, turn-onward, built-broken, built-all}
-use Rattle.segments.proofs.TurnLaws.{done-back}
+use Rattle.segments.proofs.TurnLaws.{done-back, lesser-bounds}
 use Rattle.segments.proofs.fill.Statement.{statement}
 use Rattle.segments.proofs.fill.Tie as tie
 
@@ -25,7 +25,7 @@ add-next : tie.Need-add-next Inv-loop μ-loop
 add-next c = omega arith
 
 loop-holds : tie.Need-loop-holds Inv-loop μ-loop
-loop-holds c = (omega arith, refl, c .before .before .before .pre .5, done-none _ _ _ _ _ (c .before .before .before .pre .6))
+loop-holds c = (omega arith, refl, c .before .before .before .pre .5, done-none _ _ _ _ _ (c .before .before .before .pre .0) (c .before .before .before .pre .6) (c .before .before .before .pre .7))
 
 corner-at-requires : tie.Need-corner-at-requires Inv-loop μ-loop
 corner-at-requires c κs = omega arith
@@ -41,7 +41,7 @@ visit-requires c κs =
     let chosen = c .before .before in
     let turn = chosen .before .before .before in
     let lower = turn .before .before .before .before .args .lower in
-    omega (arith, chosen .choose .ensures, choice-bound (turn .loop .inv .2) lower, turn .loop .inv .3 .filling .first .after)
+    omega (arith, chosen .choose .ensures, choice-bound (turn .loop .inv .2) lower, turn .loop .inv .3 .laid .filling .first .after)
 
 enum-known-first : tie.Need-enum-known-first Inv-loop μ-loop
 enum-known-first c = search needs
@@ -70,11 +70,37 @@ previous-corner-requires c κs =
     let start = turn .before .before .before .before in
     omega (arith, test .loop-test .taken, turn .loop .inv .0, start .pre .1, start .pre .4)
 
+add-lesser : tie.Need-add-lesser Inv-loop μ-loop
+add-lesser c = omega (arith, c .before .before .before .before .before .before .before .before .before .before .before .before .loop .inv .0, c .before .before .before .before .before .before .before .before .before .before .before .before .before .before .before .before .pre .3)
+
+lesser-requires : tie.Need-lesser-requires Inv-loop μ-loop
+lesser-requires c κs = search needs
+
+add-point : tie.Need-add-point Inv-loop μ-loop
+add-point c = omega (arith, c .before .before .previous-corner .ensures .before, c .before .before .before .before .before .before .before .before .before .before .before .before .before .before .loop .inv .0, c .before .before .before .before .before .before .before .before .before .before .before .before .before .before .before .before .before .before .pre .3)
+
+point-requires : tie.Need-point-requires Inv-loop μ-loop
+point-requires c κs =
+    let visited = c .before .before .before .before .before .before .before .before in
+    let chosen = visited .before .before in
+    let turn = chosen .before .before .before .before in
+    let start = turn .before .before .before .before in
+    let first =
+    turn-onward _ (turn .loop .inv .2) _ _ _ (turn .loop .inv .3) (chosen .before .before .corner-at .ensures) (chosen .before .choose .ensures)
+    (chosen .choose2 .ensures) (visited .visit .ensures) (c .before .before .before .before .first .given .1) .laid .filling .first in
+    let found = c .before .before .previous-corner .ensures .before in
+    let past = lesser-bounds (turn .loop .t + 1) (c .before .before .before .before .first .given .0 .0) _ (c .before .lesser .ensures) in (
+      past .2 (c .before .before .previous-corner .result + 1) (omega (arith, found)) (omega (arith, found, first .after)),
+      omega (arith, past .0, turn .loop .inv .0, turn .loop .inv .1, start .pre .0, visited .visit .ensures .size),
+      past .1,
+      omega (arith, first .inside, start .pre .3),
+    )
+
 count-back-requires : tie.Need-count-back-requires Inv-loop μ-loop
 count-back-requires c κs =
-    let turn = c .before .before .before .before .before .before .before .before .before .before .before .before in
+    let turn = c .before .before .before .before .before .before .before .before .before .before .before .before .before .before .before .before .before in
     let start = turn .before .before .before .before in (
-      omega (arith, c .previous-corner .ensures .before),
+      omega (arith, c .before .before .before .before .before .previous-corner .ensures .before),
       omega (arith, turn .loop .inv .0, start .pre .1),
       omega (arith, turn .loop .inv .0, start .pre .2),
       start .pre .4,
@@ -82,19 +108,24 @@ count-back-requires c κs =
     )
 
 loop-less : tie.Need-loop-less Inv-loop μ-loop
-loop-less c = omega (arith, c .before .previous-corner .ensures .before)
+loop-less c = omega (arith, c .before .before .before .before .before .before .previous-corner .ensures .before)
 
 loop-again : tie.Need-loop-again Inv-loop μ-loop
 loop-again c =
-    let visited = c .before .before .before .before .before .before .before in
+    let visited = c .before .before .before .before .before .before .before .before .before .before .before .before in
     let chosen = visited .before .before in
     let turn = chosen .before .before .before .before in
-    let found = c .before .previous-corner .ensures in (
+    let start = turn .before .before .before .before in
+    let found = c .before .before .before .before .before .before .previous-corner .ensures in
+    let done =
+    done-back (turn-onward _ (turn .loop .inv .2) _ _ _ (turn .loop .inv .3) (chosen .before .before .corner-at .ensures) (chosen .before .choose .ensures)
+    (chosen .choose2 .ensures) (visited .visit .ensures) (c .before .before .before .before .before .before .before .before .first .given .1)) found in
+    let pointed = c .before .before .before .point .ensures in (
       omega (arith, found .before, turn .loop .inv .0),
-      omega (arith, turn .loop .inv .1, visited .visit .ensures .size),
+      omega (arith, turn .loop .inv .1, visited .visit .ensures .size, pointed .size),
       c .count-back .ensures,
-      done-back (turn-onward _ (turn .loop .inv .2) _ _ _ (turn .loop .inv .3) (chosen .before .before .corner-at .ensures) (chosen .before .choose .ensures)
-          (chosen .choose2 .ensures) (visited .visit .ensures) (c .before .before .before .first .given .1)) found,
+      done-point done (omega (arith, start .pre .0, turn .loop .inv .1, visited .visit .ensures .size)) _
+          (lesser-bounds _ _ _ (c .before .before .before .before .before .lesser .ensures) .1) _ pointed,
     )
 
 same-length-2 : tie.Need-same-length-2 Inv-loop μ-loop
@@ -120,6 +151,10 @@ fill-spec =
     same-length
     returns
     previous-corner-requires
+    add-lesser
+    lesser-requires
+    add-point
+    point-requires
     count-back-requires
     loop-less
     loop-again

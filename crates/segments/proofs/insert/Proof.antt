@@ -25,6 +25,9 @@ same-length c = search needs
 returns-2 : tie.Need-returns-2
 returns-2 c = inserted-zero _ _ _ _ _ (omega arith) (omega arith) (omega arith) (omega arith) (omega arith)
 
+sub-cells : tie.Need-sub-cells
+sub-cells c = search needs
+
 cast-cells-2 : tie.Need-cast-cells-2
 cast-cells-2 c = search needs
 
@@ -38,7 +41,7 @@ same-length-2 : tie.Need-same-length-2
 same-length-2 c = search needs
 
 returns-3 : tie.Need-returns-3
-returns-3 c = inserted-alone _ _ _ _ _ (omega arith) (omega arith) (omega arith) (omega arith) (omega arith) (omega arith)
+returns-3 c = inserted-alone _ _ _ _ _ (omega arith) (omega arith) (omega arith) (omega arith) (omega arith) (omega arith) (omega arith)
 
 mul-wide : tie.Need-mul-wide
 mul-wide c = search needs
@@ -52,9 +55,6 @@ wide-requires c κs = search needs
 returns-4 : tie.Need-returns-4
 returns-4 c = inserted-behind _ _ _ _ _ (omega arith) (omega arith) (omega arith) (omega arith) (omega arith)
 
-sub-cells : tie.Need-sub-cells
-sub-cells c = search needs
-
 cast-cells-3 : tie.Need-cast-cells-3
 cast-cells-3 c = search needs
 
@@ -63,6 +63,9 @@ mul-cells-2 c = search needs
 
 slice-write-cells-3 : tie.Need-slice-write-cells-3
 slice-write-cells-3 c = search needs
+
+sub-cells-2 : tie.Need-sub-cells-2
+sub-cells-2 c = search needs
 
 cast-cells-4 : tie.Need-cast-cells-4
 cast-cells-4 c = search needs
@@ -81,7 +84,7 @@ same-length-3 c = search needs
 returns-5 : tie.Need-returns-5
 returns-5 c =
     rw (c .before .wide .ensures .0)
-    (inserted-before _ _ _ _ _ (omega arith) (omega arith) (omega arith) (omega arith) (omega arith) (omega arith) (omega arith))
+    (inserted-before _ _ _ _ _ (omega arith) (omega arith) (omega arith) (omega arith) (omega arith) (omega arith) (omega arith) (omega arith))
 
 pub insert-spec : {M : Type 1} → statement M
 insert-spec =
@@ -93,6 +96,7 @@ insert-spec =
     slice-write-cells
     same-length
     returns-2
+    sub-cells
     cast-cells-2
     mul-cells
     slice-write-cells-2
@@ -102,10 +106,10 @@ insert-spec =
     slice-read-wide
     wide-requires
     returns-4
-    sub-cells
     cast-cells-3
     mul-cells-2
     slice-write-cells-3
+    sub-cells-2
     cast-cells-4
     mul-cells-3
     slice-write-cells-4

@@ -3,13 +3,15 @@
 use mathlib.Core.Path.{_≡_}
 use Prim.Native.Nat.{_+_, _-_, _≤_}
 use native.Mathlib.Omega.{arith}
+use Rattle.segments_model.specs.Links.{gaps}
 use Rattle.segments_model.specs.Search.{Gap}
+use Rattle.segments_model.proofs.LinksLaws.{gaps-end, gaps-link}
 use Rattle.segments_model.proofs.SearchLaws.{gap-before}
 use Rattle.segments.proofs.previous_standing.Statement.{statement}
 use Rattle.segments.proofs.previous_standing.Tie as tie
 
 abbrev Inv-loop : tie.InvT-loop
-Inv-loop cells slot p₀ p = (p ≤ slot) × Gap cells (p + 1) (slot + 1)
+Inv-loop cells slot p₀ p = (p ≤ slot) × Gap (gaps cells) (p + 1) (slot + 1)
 
 abbrev μ-loop : tie.MeasureT-loop
 μ-loop cells slot p₀ p = p
@@ -24,7 +26,10 @@ shared-slice-read-if1 : tie.Need-shared-slice-read-if1 Inv-loop μ-loop
 shared-slice-read-if1 c = omega arith
 
 returns : tie.Need-returns Inv-loop μ-loop
-returns c = record { before = c .before .before .before .loop .inv .0; stands = λ 0<p. omega arith; gap = c .before .before .before .loop .inv .1 }
+returns c =
+    let now = c .before .before .before .loop in
+    let a = c .before .before .before .before .args in
+    record { before = now .inv .0; stands = λ 0<p. omega (arith, gaps-end (a .cells .now) (now .p) (omega arith) (omega arith) (omega arith)); gap = now .inv .1 }
 
 sub-p : tie.Need-sub-p Inv-loop μ-loop
 sub-p c = omega arith
@@ -37,7 +42,7 @@ loop-again c =
     let now = c .before .before .before .loop in
     let a = c .before .before .before .before .args in
     let back : now .p - 1 + 1 ≡ now .p = omega arith in
-    (omega arith, rw back (gap-before (a .cells .now) (now .p) (a .slot + 1) (now .inv .1) (omega arith)))
+    (omega arith, rw back (gap-before (gaps (a .cells .now)) (now .p) (a .slot + 1) (now .inv .1) (gaps-link (a .cells .now) (now .p) (omega arith) (omega arith) (omega arith))))
 
 returns-2 : tie.Need-returns-2 Inv-loop μ-loop
 returns-2 c = record { before = c .before .loop .inv .0; stands = λ 0<p. absurd (omega arith); gap = c .before .loop .inv .1 }

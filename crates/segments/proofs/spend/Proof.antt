@@ -15,7 +15,7 @@ cast-cells : tie.Need-cast-cells
 cast-cells c = search needs
 
 slice-write-cells-2 : tie.Need-slice-write-cells-2
-slice-write-cells-2 c = omega (arith, length-set (c .args .cells .now) (c .args .t) 0)
+slice-write-cells-2 c = omega (arith, length-set (c .args .cells .now) (c .args .t) 1024)
 
 same-length : tie.Need-same-length
 same-length c = search needs

@@ -1,25 +1,27 @@
 -- `segments::standing` meets its contract. The invariant: `count` is the number of right ends up to t, so at most t. The measure is what is left
 -- up to n. One more prefix: `standingIn-more`, `standingIn-same`. Assumes nothing.
 use mathlib.Core.Path.{_≡_, sym}
-use Prim.Native.Nat.{_-_, _≤_}
+use Prim.Native.Nat.{_+_, _-_, _≤_}
 use native.Mathlib.Omega.{arith}
 use lib.Dec.{ltb}
 use lib.ListN.{getD}
 use Rattle.domains.specs.Counts.{bit}
 use Rattle.segments_model.specs.Cells.{standingIn}
+use Rattle.segments_model.specs.Links.{gaps}
+use Rattle.segments_model.proofs.LinksLaws.{gaps-end, gaps-link}
 use Rattle.segments_model.proofs.SumLaws.{upTo-none}
 use Rattle.segments_model.proofs.StandingLaws.{standingIn-more, standingIn-same}
 use Rattle.segments.proofs.standing.Statement.{statement}
 use Rattle.segments.proofs.standing.Tie as tie
 
 abbrev Inv-loop : tie.InvT-loop
-Inv-loop cells n count₀ t₀ count t = (t ≤ n) × (count ≤ t) × (count ≡ standingIn cells t)
+Inv-loop cells n count₀ t₀ count t = (t ≤ n) × (count ≤ t) × (count ≡ standingIn (gaps cells) t)
 
 abbrev μ-loop : tie.MeasureT-loop
 μ-loop cells n count₀ t₀ count t = n - t
 
 loop-holds : tie.Need-loop-holds Inv-loop μ-loop
-loop-holds c = (omega arith, omega arith, sym (upTo-none (λ i. bit (ltb 0 (getD (c .args .cells .now) i 0)))))
+loop-holds c = (omega arith, omega arith, sym (upTo-none (λ i. bit (ltb 0 (getD (gaps (c .args .cells .now)) i 0)))))
 
 add-t : tie.Need-add-t Inv-loop μ-loop
 add-t c = omega arith
@@ -39,7 +41,9 @@ loop-less c = omega arith
 loop-again : tie.Need-loop-again Inv-loop μ-loop
 loop-again c =
     let now = c .before .before .before .loop in
-    (omega arith, omega arith, omega (arith, now .inv .2, standingIn-more (c .before .before .before .before .args .cells .now) (now .t) (omega arith)))
+    let cells = c .before .before .before .before .args .cells .now in
+    let some = gaps-end cells (now .t + 1) (omega arith) (omega arith) (omega arith) in
+    (omega arith, omega arith, omega (arith, now .inv .2, standingIn-more (gaps cells) (now .t) (omega (arith, some))))
 
 loop-less-2 : tie.Need-loop-less-2 Inv-loop μ-loop
 loop-less-2 c = omega arith
@@ -47,7 +51,9 @@ loop-less-2 c = omega arith
 loop-again-2 : tie.Need-loop-again-2 Inv-loop μ-loop
 loop-again-2 c =
     let now = c .before .before .before .loop in
-    (omega arith, omega arith, omega (arith, now .inv .2, standingIn-same (c .before .before .before .before .args .cells .now) (now .t) (omega arith)))
+    let cells = c .before .before .before .before .args .cells .now in
+    let none = gaps-link cells (now .t + 1) (omega arith) (omega arith) (omega arith) in
+    (omega arith, omega arith, omega (arith, now .inv .2, standingIn-same (gaps cells) (now .t) none))
 
 returns : tie.Need-returns Inv-loop μ-loop
 returns c =

@@ -16,7 +16,7 @@ cast-cells c = search needs
 
 slice-write-cells-2 : tie.Need-slice-write-cells-2
 slice-write-cells-2 c =
-    omega (arith, length-set (c .args .cells .now) (c .args .t) 1)
+    omega (arith, length-set (c .args .cells .now) (c .args .t) 0)
 
 same-length : tie.Need-same-length
 same-length c = search needs

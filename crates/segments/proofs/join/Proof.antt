@@ -1,0 +1,60 @@
+-- `segments::join` meets its contract: the code's two stores. Assumes nothing.
+use native.Mathlib.Omega.{arith}
+use lib.ListN.{getD, length-set}
+use borrow.Author.Needs.{needs}
+use Rattle.segments.proofs.join.Statement.{statement}
+use Rattle.segments.proofs.join.Tie as tie
+
+mul-cells : tie.Need-mul-cells
+mul-cells c = search needs
+
+slice-read-cells : tie.Need-slice-read-cells
+slice-read-cells c = search needs
+
+mul-cells-2 : tie.Need-mul-cells-2
+mul-cells-2 c = search needs
+
+slice-write-cells : tie.Need-slice-write-cells
+slice-write-cells c = search needs
+
+sub-cells : tie.Need-sub-cells
+sub-cells c = search needs
+
+sub-cells-2 : tie.Need-sub-cells-2
+sub-cells-2 c = search needs
+
+add-cells : tie.Need-add-cells
+add-cells c = search needs
+
+cast-cells : tie.Need-cast-cells
+cast-cells c = search needs
+
+mul-cells-3 : tie.Need-mul-cells-3
+mul-cells-3 c = search needs
+
+slice-write-cells-2 : tie.Need-slice-write-cells-2
+slice-write-cells-2 c =
+    omega (arith, length-set (c .before .args .cells .now) (c .before .args .t) (getD (c .before .args .cells .now) (c .before .args .p) 0))
+
+same-length : tie.Need-same-length
+same-length c = search needs
+
+returns : tie.Need-returns
+returns c = search needs
+
+pub join-spec : {M : Type 1} → statement M
+join-spec =
+    tie.close
+    (tie.spec
+    mul-cells
+    slice-read-cells
+    mul-cells-2
+    slice-write-cells
+    sub-cells
+    sub-cells-2
+    add-cells
+    cast-cells
+    mul-cells-3
+    slice-write-cells-2
+    same-length
+    returns)
