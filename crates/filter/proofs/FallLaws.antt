@@ -5,7 +5,7 @@ use mathlib.Core.Bool.{Bool}
 use mathlib.Core.List.{List}
 use Prim.Native.Nat.{ℕ, _+_, _≤_, zero-le}
 use native.Mathlib.Omega.{arith}
-use Rattle.segments_model.specs.Cells.{Cells}
+use Rattle.segments_model.specs.Links.{Held}
 use Rattle.segments_model.specs.Part.{Lent}
 use Rattle.segments_model.proofs.PartLaws.{lent-map}
 use Rattle.segments.specs.Fell.{Inside, Answer, Reverses, Fell}
@@ -14,7 +14,7 @@ use Rattle.segments.specs.declared.Hit.the-variants.{Quiet, Clash, Reached}
 use Rattle.filter_model.specs.Strike.{Dropped}
 
 module _ (n slot : ℕ) (a b : List ℕ) {r : Hit} (fell : Fell n slot a b r) where
-  answer-at : (r′ : Hit) → r ≡ r′ → (C : ℕ → Bool) (f : ℕ → ℕ) → Cells n C f a → Answer n C f slot a b r′
+  answer-at : (r′ : Hit) → r ≡ r′ → (C : ℕ → Bool) (f : ℕ → ℕ) → Held n C f a → Answer n C f slot a b r′
   answer-at r′ is C f held = subst (λ (h : Hit). Answer n C f slot a b h) is (fell .answer C f held)
 
   reverses-at : (r′ : Hit) → r ≡ r′ → Reverses n slot a b r′
@@ -28,7 +28,7 @@ module _ (n slot : ℕ) (a b : List ℕ) {r : Hit} (fell : Fell n slot a b r) wh
         reach = λ C f held free.
             let quieted = answer-at (Quiet x) is C f held in
             record {
-              cells = quieted .cells;
+              held = quieted .held;
               more = λ u slot<u u≤n corner. omega (arith, quieted .more u slot<u u≤n corner);
               past = λ u slot<u 0<u u≤n corner. quieted .more u slot<u u≤n corner;
               meets = λ 0<0. absurd (omega arith);
@@ -53,7 +53,7 @@ module _ (n slot : ℕ) (a b : List ℕ) {r : Hit} (fell : Fell n slot a b r) wh
         reach = λ C f held free.
             let reached = answer-at (Reached t x) is C f held in
             record {
-              cells = reached .cells;
+              held = reached .held;
               more = reached .more;
               past = λ u slot<u t<u u≤n corner. reached .past u t<u u≤n corner;
               meets = λ 0<t. reached .meets;

@@ -205,7 +205,7 @@ fn strike_one(
 
 // Lowers the slack of a row by one after the slot.
 fn fall_row(cells: &mut [u16], row: u32, n: usize, slot: usize) -> Descent
-    requires { ⌜ (slot ≤ n) × (row * (n + 1) + n < length (now cells)) × (n < 65536) ⌝ }
+    requires { ⌜ (slot ≤ n) × (row * (n + 1) + n < length (now cells)) × (n < 1024) ⌝ }
     ensures { λ r. ⌜ Lent (row * (n + 1)) (n + 1) (λ a b. Dropped n slot a b (r .reach) (r .note)) (now (cells .entry)) (now (cells .exit)) ⌝ }
 {
     let hit = segments::fall_in(cells, row as usize * (n + 1), n, slot);

@@ -66,7 +66,7 @@ module _ {n k : ℕ} {T : Table} {M cells : List ℕ} (mirror : Mirror n k T M c
     row-falls =
         record {
           segments =
-              segments-falls (boundLine kind n T x) M slot m inside x kind (mirror .rows kind x x<k) (cellsOf kind n k x cells′) change (reach .cells)
+              segments-falls (boundLine kind n T x) M slot m inside x kind (mirror .rows kind x x<k) (cellsOf kind n k x cells′) change (reach .held)
               (reach .more);
           spent = λ t corner none.
               dite (decLt slot t)

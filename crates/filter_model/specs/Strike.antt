@@ -16,14 +16,14 @@ use lib.ListN.{length, getD}
 use Rattle.domains.specs.Masks.{Subset}
 use Rattle.closing_model.specs.Table.{Table}
 use Rattle.settling_model.specs.Stable.{Stable, tableBounds}
-use Rattle.segments_model.specs.Cells.{Cells}
 use Rattle.segments_model.specs.Fall.{fallen, MoreThan, Meets}
+use Rattle.segments_model.specs.Links.{Held}
 use Rattle.segments_model.specs.Raise.{Reversal}
 use Rattle.filter_model.specs.Cuts.{StrikeCut, BoundCut}
 use Rattle.filter_model.specs.Mirror.{Corner, slackAt, Mirror}
 
 pub record Reach (n : ℕ) (C : ℕ → Bool) (f : ℕ → ℕ) (slot : ℕ) (cells′ : List ℕ) (r : ℕ) : Type 0 where
-  pub cells : Cells n C (fallen f slot) cells′
+  pub held : Held n C (fallen f slot) cells′
   pub more : MoreThan n C f slot 0
   pub past : (u : ℕ) → slot < u → r < u → u ≤ n → C u ≡ true → 1 < f u
   pub meets : 0 < r → Meets n C f slot 1 r
@@ -31,7 +31,7 @@ pub record Reach (n : ℕ) (C : ℕ → Bool) (f : ℕ → ℕ) (slot : ℕ) (ce
 pub record Dropped (n slot : ℕ) (cells cells′ : List ℕ) (r x : ℕ) : Type 0 where
   pub size : length cells′ ≡ length cells
   pub inside : r ≤ n
-  pub reach : (C : ℕ → Bool) (f : ℕ → ℕ) → Cells n C f cells → getD cells 0 0 ≤ slot → Reach n C f slot cells′ r
+  pub reach : (C : ℕ → Bool) (f : ℕ → ℕ) → Held n C f cells → getD cells 0 0 ≤ slot → Reach n C f slot cells′ r
   pub back : getD cells 0 0 ≤ slot → Reversal n slot x cells cells′
 
 abbrev pub Due : ℕ → ℕ → ℕ → ℕ → ℕ → ℕ → Type 0

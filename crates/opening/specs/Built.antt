@@ -14,7 +14,7 @@ use Rattle.filter_model.specs.Mirror.{boundLine, cellsOf, Mirror}
 use Rattle.filter_model.specs.Rises.{TableRises}
 
 pub record Building (cells rises masks : List ℕ) (n k : ℕ) : Type 0 where
-  pub slots-fit : n < 65536
+  pub slots-fit : n < 1024
   pub values-fit : k ≤ 32
   pub rises-in : n < length rises
   pub slots : n ≤ length masks

@@ -11,6 +11,7 @@ use Rattle.domains.specs.Counts.{bit}
 use Rattle.filter_model.specs.Mirror.{cellsOf, row}
 use Rattle.filter_model.proofs.RowLaws.{row-inside}
 use Rattle.segments_model.specs.Cells.{standingIn}
+use Rattle.segments_model.specs.Links.{gaps}
 use Rattle.segments_model.specs.Part.{part}
 use Rattle.segments_model.proofs.StandingLaws.{standing-words}
 use Rattle.segments_model.proofs.SumLaws.{count-bound}
@@ -248,7 +249,7 @@ opened-working {R} {S} {masks} {cells} {trail} {heights} {n} {k} {session} repre
 
 -- the cells of a row count as many as the formula
 walls-words : {n k : ℕ} {R : Rules} {saved : List (List ℕ)} {masks cells trail heights : List ℕ} {top : ℕ} (kind : Bool) (v : ℕ) → v < k
-    → Working R saved masks cells trail heights n k top → standingIn (cellsOf kind n k v cells) n ≡ R .standing kind masks v
+    → Working R saved masks cells trail heights n k top → standingIn (gaps (cellsOf kind n k v cells)) n ≡ R .standing kind masks v
 walls-words {n} {k} {R} {masks = masks} {cells = cells} true v v<k working =
     standing-words n _ _ (cellsOf true n k v cells) (working .mirror .rows true v v<k .held) ∙ sym (working .rules .standing true masks v)
 walls-words {n} {k} {R} {masks = masks} {cells = cells} false v v<k working =
@@ -277,7 +278,7 @@ module _ {cells : List ℕ} {n k v : ℕ} {session : Session} (lower : Bool) whe
       }
 
   pub walls-stand : isShut (session .standing) ≡ false → v < k → (x start : ℕ) → start ≡ row lower k v * (n + 1)
-      → x ≡ standingIn (part start (n + 1) cells) n
+      → x ≡ standingIn (gaps (part start (n + 1) cells)) n
       → (masks trail heights : List ℕ) (i : ℕ)
       → Acts n k i (Calls.walls lower v) session masks cells trail heights masks cells trail heights
       (record { session = session; first = 2; second = x })

@@ -25,7 +25,7 @@ pub record Sizes (masks cells : List ℕ) (n k : ℕ) : Type 0 where
 pub record RowUndoing (cells : List ℕ) (row n slot note : ℕ) : Type 0 where
   pub slot-in : slot ≤ n
   pub row-in : row * (n + 1) + n < length cells
-  pub slots-fit : n < 65536
+  pub slots-fit : n < 1024
   pub raisable : Raisable n slot note (part (row * (n + 1)) (n + 1) cells)
 
 pub record UpperUndoing (masks cells trail : List ℕ) (n k slot : ℕ) : Type 0 where
