@@ -7,7 +7,6 @@ use mathlib.Core.Option.{none, some}
 use Prim.Native.Nat.{ℕ, _-_, _<_}
 use native.Mathlib.Omega.{arith}
 use lib.ListN.{length}
-use Rattle.domains.specs.Masks.{total}
 use Rattle.filter_model.specs.State.{Ready}
 use Rattle.filter.specs.Filtered.{Filtered}
 use Rattle.filter.specs.declared.Outcome.the-variants as Outcomes
@@ -20,10 +19,11 @@ use Rattle.session_model.specs.State as Machine
 use Rattle.session_model.specs.State.{Rules, State}
 use Rattle.session.specs.Given.{decisionOf, CutOf, standingOf}
 use Rattle.session.specs.Represents.{Represents}
-use Rattle.session.specs.Answers.{Answered, Acts, Deciding}
+use Rattle.session.specs.Answers.{Answered, Acts, Deciding, Strikes}
 use Rattle.session.specs.declared.Session.{Session}
 use Rattle.session.specs.declared.Standing.the-variants.{Live, Dead}
 use Rattle.session.proofs.CutLaws.{cut-live, cut-dead}
+use Rattle.session.proofs.StruckLaws.{moved-strikes}
 use Rattle.session.proofs.WorkingLaws.{working-world, room-moved, working-live, undoable-dead, masks-back, working-dead, room-dead, live-working}
 
 -- ---- the machine
@@ -110,14 +110,20 @@ module _ {masks cells trail heights : List ℕ} {n k : ℕ} {session : Session} 
       let represents = deciding .running .represents in
       undoable-dead (represents .room) (live-working represents (deciding .live)) done
 
+  pub deciding-strikes : {Q : List ℕ → Type 0} {masks′ cells′ trail′ : List ℕ} {h : ℕ}
+      → Filtered n k Q Q masks cells trail (session .top) masks′ cells′ trail′ (Outcomes.Live h) → Strikes n trail′ (session .top) h
+  deciding-strikes done =
+      let room = deciding .running .represents .room in
+      moved-strikes (deciding-ready .world) (room .heights-fit) (done .moved)
+
   -- ---- the answers
   module _ (i : ℕ) (assign : Bool) {masks′ cells′ trail′ : List ℕ} {h : ℕ} where
-    pub decide-live : {before after : ℕ}
+    pub decide-live : {count : ℕ}
         → Filtered n k (CutOf assign slot v) (CutOf assign slot v) masks cells trail (session .top) masks′ cells′ trail′ (Outcomes.Live h)
-        → before ≡ total masks → after ≡ total masks′
+        → count ≡ h - session .top
         → Acts n k i (Calls.decide (decisionOf assign slot v)) session masks cells trail heights masks′ cells′ trail′ heights
-        (record { session = record { standing = Live; top = h; marks = session .marks }; first = 0; second = before - after })
-    decide-live {before} {after} done before-is after-is =
+        (record { session = record { standing = Live; top = h; marks = session .marks }; first = 0; second = count })
+    decide-live {count} done count-is =
         record {
           does = λ R S represents.
               let d = decisionOf assign slot v in
@@ -125,14 +131,10 @@ module _ {masks cells trail heights : List ℕ} {n k : ℕ} {session : Session} 
               let inside : slot < length masks = omega (arith, deciding .slot-in, represents .room .masks-in) in
               let cuts = cut-live (working .rules .closed) (working .mirror) (working .base .stable) slot v inside assign done in
               let settles : R .settle (cut d (S .masks)) ≡ some masks′ = rw (represents .masks-are) (working .rules .settle (cut d masks) ∙ cuts) in
-              let struck : before - after ≡ R .ones (S .masks) - R .ones masks′ = rw (
-                represents .masks-are,
-                represents .suits .ones masks,
-                represents .suits .ones masks′,
-                before-is,
-                after-is,
-              ) refl in
-              live-answered represents (deciding .live) i d (before - after) done settles struck;
+              let struck : count ≡ R .ones (S .masks) - R .ones masks′ =
+              rw (represents .masks-are, represents .suits .ones masks, represents .suits .ones masks′)
+              (omega (arith, count-is, done .moved .height, done .moved .trailed .up)) in
+              live-answered represents (deciding .live) i d count done settles struck;
         }
 
     pub decide-dead : {masks″ cells″ : List ℕ}

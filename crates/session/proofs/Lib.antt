@@ -7,5 +7,5 @@ mod PileLaws
 mod RefusesLaws
 mod RunsLaws
 mod StepLaws
-mod TotalLaws
+mod StruckLaws
 mod WorkingLaws

@@ -3,6 +3,7 @@
 --   Acts ..                so it is for the call c, whatever state of whatever machine the slices stood for, where no number refuses c
 --   Steps ..               the same for any call: refused, or done
 --   Deciding, Marking, Backing, Counting   what the calls need that no number refuses
+--   Strikes n trail from to   the trail has a strike at each height from `from` up to `to`
 --   Performing             the slices stand for a state on which no number refuses the call c
 --   Refuses ..             r is the number that refuses the call c, or 0, on any machine's state with this flag and so many saved lists
 -- Assumes nothing.
@@ -12,6 +13,7 @@ use mathlib.Core.Bool.{Bool}
 use mathlib.Core.Option.{none}
 use Prim.Native.Nat.{ℕ, _+_, _*_, _≤_, _<_}
 use lib.ListN.{length}
+use Rattle.filter_model.specs.Trail.{valueAt}
 use Rattle.session_model.specs.Calls as Calls
 use Rattle.session_model.specs.Machine.{act, step}
 use Rattle.session_model.specs.Refusal.{refusal}
@@ -45,6 +47,13 @@ pub record Deciding (masks cells trail heights : List ℕ) (n k : ℕ) (session 
   pub live : session .standing ≡ Live
   pub slot-in : slot < n
   pub value-in : v < k
+
+pub record Strikes (n : ℕ) (trail : List ℕ) (from to : ℕ) : Type 0 where
+  pub order : from ≤ to
+  pub upto : n + 3 * to ≤ length trail
+  -- a height fits 16 bits, and a value the mask
+  pub heights-fit : length trail < 65536
+  pub values-fit : (i : ℕ) → from ≤ i → i < to → valueAt n trail i < 32
 
 pub record Marking (heights : List ℕ) (session : Session) : Type 0 where
   pub live : session .standing ≡ Live

@@ -9,15 +9,15 @@ use segments::standing_in;
 use undoing::undo;
 ghost use mathlib.Core.Path.{_≡_};
 ghost use mathlib.Core.List.{List};
-ghost use Prim.Native.Nat.{ℕ, _+_, _*_, _≤_, _<_};
+ghost use Prim.Native.Nat.{ℕ, _+_, _-_, _*_, _≤_, _<_};
 ghost use lib.ListN.{length, getD};
-ghost use Rattle.domains.specs.Masks.{total};
 ghost use Rattle.filter_model.specs.Mirror.{row};
 ghost use Rattle.filter_model.specs.State.{Ready};
+ghost use Rattle.filter_model.specs.Trail.{valueAt};
 ghost use Rattle.filter.specs.Filtered.{Filtered};
 ghost use Rattle.session_model.specs.Calls as Calls;
 ghost use Rattle.session.specs.Given.{decisionOf, CutOf, isShut};
-ghost use Rattle.session.specs.Answers.{Acts, Deciding, Marking, Backing, Counting};
+ghost use Rattle.session.specs.Answers.{Acts, Deciding, Strikes, Marking, Backing, Counting};
 
 // An assign, or a remove: live with what it struck, or dead, and then the masks and the cells are as before.
 pub fn decide(
@@ -40,11 +40,10 @@ pub fn decide(
 {
     let top = session.top;
     let marks = session.marks;
-    let before = ones(masks);
     let outcome = cut_slot(masks, cells, trail, n, k, top, slot, v, assign);
     match outcome {
         Outcome::Live(h) => {
-            let after = ones(masks);
+            let count = struck(trail, n, top, h);
             let live = Session {
                 standing: Standing::Live,
                 top: h,
@@ -53,7 +52,7 @@ pub fn decide(
             return Stepped {
                 session: live,
                 first: 0,
-                second: before - after,
+                second: count,
             };
         }
         Outcome::Dead(h) => {
@@ -211,14 +210,23 @@ fn cut_slot(
     strike(masks, cells, trail, n, k, top, slot, v)
 }
 
-// How many values all masks have together.
-fn ones(masks: &[u32]) -> u32
-    requires { ⌜ length (now masks) ≤ 256 ⌝ }
-    ensures { λ r. ⌜ r ≡ total (now (masks .entry)) ⌝ }
+// How many values were struck while the trail grew from height `from` to height `to`: the ones of what each strike took out.
+fn struck(trail: &[u8], n: usize, from: usize, to: usize) -> u32
+    requires { ⌜ Strikes n (now trail) from to ⌝ }
+    ensures { λ r. ⌜ r ≡ to - from ⌝ }
 {
     let mut count: u32 = 0;
-    for s in 0..masks.len() {
-        count += domains::count(masks[s]);
+    for i in from..to {
+        let v = value_at(trail, n, i);
+        count += domains::count(domains::only(v));
     }
     count
+}
+
+// The value of the strike i.
+fn value_at(trail: &[u8], n: usize, i: usize) -> u32
+    requires { ⌜ n + 3 * i + 1 < length (now trail) ⌝ }
+    ensures { λ r. ⌜ r ≡ valueAt n (now (trail .entry)) i ⌝ }
+{
+    trail[n + 3 * i + 1] as u32
 }

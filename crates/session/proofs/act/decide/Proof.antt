@@ -1,30 +1,24 @@
 -- `session::act::decide` meets its contract: Live, the machine's masks become those at exit (`decide-live`); Dead, what was struck is taken back,
 -- and the masks stay (`decide-dead`). Assumes nothing.
-use native.Mathlib.Omega.{arith}
 use borrow.Author.Needs.{needs}
 use Rattle.filter.proofs.FilteredLaws.{filtered-at}
-use Rattle.domains.proofs.MasksLaws.{total-mono}
-use Rattle.session.proofs.DecideLaws.{deciding-ready, deciding-undoable, decide-live, decide-dead}
+use Rattle.session.proofs.DecideLaws.{deciding-ready, deciding-strikes, deciding-undoable, decide-live, decide-dead}
 use Rattle.session.proofs.act.decide.Statement.{statement}
 use Rattle.session.proofs.act.decide.Tie as tie
 
-ones-requires : tie.Need-ones-requires
-ones-requires c κs = search needs
-
 cut-slot-requires : tie.Need-cut-slot-requires
 cut-slot-requires c κs =
-    deciding-ready (c .before .before .before .before .before .before .before .before .before .pre)
+    deciding-ready (c .before .before .before .before .before .before .before .pre)
 
 enum-known-outcome : tie.Need-enum-known-outcome
 enum-known-outcome c = search needs
 
-ones-requires-2 : tie.Need-ones-requires-2
-ones-requires-2 c κs =
-    let done = c .before .before .before .before .before .before .before .before .before .before .cut-slot .ensures in omega (arith, done .moved .within .len, c .before .before .before .before .before .before .before .before .before .before .before .before .before .before .before .before .before .before .before .before .pre .running .represents .room .masks-in, c .before .before .before .before .before .before .before .before .before .before .before .before .before .before .before .before .before .before .before .before .pre .running .represents .room .slots-fit)
-
-sub-t32 : tie.Need-sub-t32
-sub-t32 c =
-    omega (arith, c .before .before .before .before .before .before .before .before .before .before .before .before .before .before .before .ones .ensures, c .ones2 .ensures, total-mono _ _ (c .before .before .before .before .before .before .before .before .before .before .before .cut-slot .ensures .moved .within))
+struck-requires : tie.Need-struck-requires
+struck-requires c κs =
+    let pre = c .before .before .before .before .before .before .before .before .before .before .before .before .before .before .before .before
+    .before .before .pre in
+    let cut-slot = c .before .before .before .before .before .before .before .before .before .before .cut-slot in
+    deciding-strikes pre (filtered-at (c .before .before .outcome .given .1) (cut-slot .ensures))
 
 same-length : tie.Need-same-length
 same-length c = search needs
@@ -37,14 +31,22 @@ same-length-3 c = search needs
 
 returns : tie.Need-returns
 returns c =
-    decide-live (c .before .before .before .before .before .before .before .before .before .before .before .before .before .before .before .before .before .before .before .before .before .pre) (c .before .before .before .before .before .before .before .before .before .before .before .before .before .before .before .before .before .before .before .before .before .args .i) (c .before .before .before .before .before .before .before .before .before .before .before .before .before .before .before .before .before .before .before .before .before .args .assign) (filtered-at (c .before .before .before .outcome .given .1) (c .before .before .before .before .before .before .before .before .before .before .before .cut-slot .ensures)) (c .before .before .before .before .before .before .before .before .before .before .before .before .before .before .before .ones .ensures) (c .ones2 .ensures)
+    let pre = c .before .before .before .before .before .before .before .before .before .before .before .before .before .before .before .before
+    .before .before .before .pre in
+    let args = c .before .before .before .before .before .before .before .before .before .before .before .before .before .before .before .before
+    .before .before .before .args in
+    let cut-slot = c .before .before .before .before .before .before .before .before .before .before .before .cut-slot in
+    decide-live pre (args .i) (args .assign) (filtered-at (c .before .before .before .outcome .given .1) (cut-slot .ensures)) (c .struck .ensures)
 
 enum-known-outcome-2 : tie.Need-enum-known-outcome-2
 enum-known-outcome-2 c = search needs
 
 undo-requires : tie.Need-undo-requires
 undo-requires c κs =
-    deciding-undoable (c .before .before .before .before .before .before .before .before .before .before .before .before .before .before .before .before .before .before .before .before .before .before .pre) (filtered-at (c .before .before .before .before .outcome2 .given .1) (c .before .before .before .before .before .before .before .before .before .before .before .before .cut-slot .ensures))
+    let pre = c .before .before .before .before .before .before .before .before .before .before .before .before .before .before .before .before
+    .before .before .before .before .pre in
+    let cut-slot = c .before .before .before .before .before .before .before .before .before .before .before .before .cut-slot in
+    deciding-undoable pre (filtered-at (c .before .before .before .before .outcome2 .given .1) (cut-slot .ensures))
 
 same-length-4 : tie.Need-same-length-4
 same-length-4 c = search needs
@@ -57,17 +59,22 @@ same-length-6 c = search needs
 
 returns-2 : tie.Need-returns-2
 returns-2 c =
-    decide-dead (c .before .before .before .before .before .before .before .before .before .before .before .before .before .before .before .before .before .before .before .before .before .before .before .before .before .before .before .pre) (c .before .before .before .before .before .before .before .before .before .before .before .before .before .before .before .before .before .before .before .before .before .before .before .before .before .before .before .args .i) (c .before .before .before .before .before .before .before .before .before .before .before .before .before .before .before .before .before .before .before .before .before .before .before .before .before .before .before .args .assign) (filtered-at (c .before .before .before .before .before .before .before .before .before .outcome2 .given .1) (c .before .before .before .before .before .before .before .before .before .before .before .before .before .before .before .before .before .cut-slot .ensures)) (c .before .before .before .before .undo .ensures)
+    let pre = c .before .before .before .before .before .before .before .before .before .before .before .before .before .before .before .before
+    .before .before .before .before .before .before .before .before .before .pre in
+    let args = c .before .before .before .before .before .before .before .before .before .before .before .before .before .before .before .before
+    .before .before .before .before .before .before .before .before .before .args in
+    let cut-slot = c .before .before .before .before .before .before .before .before .before .before .before .before .before .before .before .before
+    .before .cut-slot in
+    decide-dead pre (args .i) (args .assign) (filtered-at (c .before .before .before .before .before .before .before .before .before .outcome2
+    .given .1) (cut-slot .ensures)) (c .before .before .before .before .undo .ensures)
 
 pub decide-spec : {M : Type 1} → statement M
 decide-spec =
     tie.close
     (tie.spec
-    ones-requires
     cut-slot-requires
     enum-known-outcome
-    ones-requires-2
-    sub-t32
+    struck-requires
     same-length
     same-length-2
     same-length-3
