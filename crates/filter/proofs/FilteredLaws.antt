@@ -1,5 +1,5 @@
 -- The laws of `Filtered` of `specs/Filtered.antt`: no call (`filtered-refl`), a call after others that were Live (`filtered-more`), another goal
--- (`filtered-goal`). No contract cites this file. Assumes nothing.
+-- (`filtered-goal`), a narrower cut (`filtered-asks`). No contract cites this file. Assumes nothing.
 use mathlib.Core.Path.{_≡_, subst}
 use mathlib.Core.Bool.{Bool}
 use mathlib.Core.List.{List}
@@ -49,6 +49,18 @@ filtered-goal done gives =
       progress = done .progress;
       keeps = done .keeps;
       goal = λ live. gives live (done .goal live);
+    }
+
+-- a narrower cut
+pub filtered-asks : {n k : ℕ} {P Q G : List ℕ → Type 0} {m₀ c₀ t₀ m₁ c₁ t₁ : List ℕ} {h₀ : ℕ} {r : Outcome}
+    → ((N : List ℕ) → P N → Q N) → Filtered n k Q G m₀ c₀ t₀ h₀ m₁ c₁ t₁ r → Filtered n k P G m₀ c₀ t₀ h₀ m₁ c₁ t₁ r
+filtered-asks asks done =
+    record {
+      moved = done .moved;
+      mirror = done .mirror;
+      progress = done .progress;
+      keeps = λ T mirror N stable N⊆m cut. done .keeps T mirror N stable N⊆m (asks N cut);
+      goal = done .goal;
     }
 
 -- a cut of one kind, where the kind is known

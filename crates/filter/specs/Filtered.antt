@@ -3,6 +3,7 @@
 --                           Dead, there is none
 --   Filtered n k Q G ..     what a call that was asked for the cut Q did: the state moved, and the cells still mirror every table that they mirrored;
 --                           Live: progress, G holds of the masks, and every stable list with the cut lies within them; Dead: there is no such list
+--   Followed v a w b M      after a strike: all before a is settled for v, and all before b for w
 --   Removal·Answer          one whole strike, by the answer of `strike_one`
 --   Free m v r              r tells whether m has v and others besides
 -- Assumes nothing.
@@ -12,6 +13,7 @@ use Prim.Native.Nat.{ℕ}
 use Rattle.domains.specs.Mask.{Has, Fixed}
 use Rattle.domains.specs.Masks.{Subset}
 use Rattle.closing_model.specs.Table.{Table}
+use Rattle.settling_model.specs.Settled.{Settled}
 use Rattle.settling_model.specs.Stable.{Stable, tableBounds}
 use Rattle.filter_model.specs.Mirror.{Mirror, Progress}
 use Rattle.filter_model.specs.State.{Moved, Contradicted, Removed}
@@ -39,6 +41,10 @@ pub record Filtered (n k : ℕ) (Q G : List ℕ → Type 0) (masks cells trail :
   pub progress : Lived r → (T : Table) → Mirror n k T masks cells → Progress n k T masks masks′
   pub keeps : (T : Table) → Mirror n k T masks cells → (N : List ℕ) → Stable (tableBounds n k T) N → Subset N masks → Q N → Held N masks′ r
   pub goal : Lived r → G masks′
+
+pub record Followed (v a w b : ℕ) (M : List ℕ) : Type 0 where
+  pub low : Settled M v a
+  pub high : Settled M w b
 
 abbrev pub Removal·Answer : ℕ → ℕ → List ℕ → List ℕ → List ℕ → ℕ → List ℕ → List ℕ → List ℕ → ℕ → ℕ → Removal → Type 0
 Removal·Answer n k masks cells trail top masks′ cells′ trail′ slot v Contradiction = Contradicted n k masks cells trail masks′ cells′ trail′ slot v

@@ -10,9 +10,9 @@ ghost use Rattle.settling_model.specs.Settled.{Settled};
 ghost use Rattle.segments_model.specs.Part.{Lent};
 ghost use Rattle.filter_model.specs.Cuts.{StrikeCut, FixCut, SlotCut, BoundCut};
 ghost use Rattle.filter_model.specs.State.{Ready, Pruning};
-ghost use Rattle.filter_model.specs.Strike.{Dropped};
+ghost use Rattle.filter_model.specs.Strike.{Dropped, Cuts};
 ghost use Rattle.filter_model.specs.Trail.{written};
-ghost use Rattle.filter.specs.Filtered.{Filtered, Removal·Answer, Free};
+ghost use Rattle.filter.specs.Filtered.{Filtered, Followed, Removal·Answer, Free};
 
 // The trail's height after a call, and whether a stable list may be left.
 pub enum Outcome {
@@ -88,9 +88,39 @@ pub fn strike(
     let Removal::Made(a, b, w) = o else {
         return Outcome::Dead(top);
     };
-    let p = prune(masks, cells, trail, n, k, top + 1, v, a, true);
+    if a == 0 && b == 0 {
+        return Outcome::Live(top + 1);
+    }
+    follow(masks, cells, trail, n, k, top + 1, v, a, w, b)
+}
+
+// What follows a strike: settles each slot before the end a, where the lower bound of v is met, then each before the end b, where the upper
+// bound of w is. At an end 0 no bound is met.
+fn follow(
+    masks: &mut [u32],
+    cells: &mut [u16],
+    trail: &mut [u8],
+    n: usize,
+    k: u32,
+    top: usize,
+    v: u32,
+    a: usize,
+    w: u32,
+    b: usize,
+) -> Outcome
+    requires { ⌜ Pruning (now masks) (now cells) (now trail) n k top v a × Pruning (now masks) (now cells) (now trail) n k top w b ⌝ }
+    ensures { λ r. ⌜ Filtered n k (Cuts (now (masks .entry)) v a w b) (Followed v a w b)
+        (now (masks .entry)) (now (cells .entry)) (now (trail .entry)) top (now (masks .exit)) (now (cells .exit)) (now (trail .exit)) r ⌝ }
+{
+    if a == 0 {
+        return prune(masks, cells, trail, n, k, top, w, b, false);
+    }
+    let p = prune(masks, cells, trail, n, k, top, v, a, true);
     match p {
         Outcome::Live(h) => {
+            if b == 0 {
+                return Outcome::Live(h);
+            }
             return prune(masks, cells, trail, n, k, h, w, b, false);
         }
         Outcome::Dead(x) => {

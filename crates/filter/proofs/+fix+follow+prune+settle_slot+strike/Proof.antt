@@ -1,6 +1,7 @@
--- The proof of the cycle of calls of `fix`, `prune`, `settle_slot` and `strike`. The measure is four times the values that are left, plus 1 for
--- `fix`, 2 for `settle_slot` and 3 for `prune`. The invariant of each loop is `Filtered` for what was passed: the values that are gone from the
--- slot, the slots before which all is settled; each turn is `filtered-more`. `strike` is `strike-pruned`. Assumes nothing.
+-- The proof of the cycle of calls of `fix`, `follow`, `prune`, `settle_slot` and `strike`. The measure is five times the values that are left,
+-- plus 1 for `fix`, 2 for `settle_slot`, 3 for `prune` and 4 for `follow`. The invariant of each loop is `Filtered` for what was passed: the
+-- values that are gone from the slot, the slots before which all is settled; each turn is `filtered-more`. `strike` is `strike-followed`, and
+-- `follow` is `follow-both` where both its prunes run. Assumes nothing.
 use mathlib.Core.Path.{sym, _∙_}
 use mathlib.Core.Bool.{Bool, true, false}
 use mathlib.Core.List.{List}
@@ -19,27 +20,31 @@ use Rattle.filter.specs.declared.Outcome.the-variants.{Live}
 use Rattle.filter.proofs.FilteredLaws.{filtered-at, filtered-refl, filtered-more, filtered-goal, filtered-kind}
 use Rattle.filter.proofs.LoopLaws.{Gone, gone-none, gone-skip, gone-more, gone-fixed, fix-strikes, total-less}
 use Rattle.filter.proofs.LoopLaws.{free-no, free-yes, free-concerned, settled-next, settled-cut}
-use Rattle.filter.proofs.StrikeLaws.{answer-contradicted, answer-removed, strike-absent, strike-contradicted, strike-dead, strike-pruned}
+use Rattle.filter.proofs.StrikeLaws.{answer-contradicted, answer-removed, strike-absent, strike-contradicted, strike-followed}
+use Rattle.filter.proofs.StrikeLaws.{follow-none, follow-high, follow-low, follow-dead, follow-both}
 use Prim.Native.Nat.{ℕ, _<_}
 use borrow.Fn.Kinds.{In}
 use borrow.Fn.PlainCycle.{Measures, is, falls, and}
 use Rattle.filter.proofs.fix.Reads as fix
 use Rattle.filter.proofs.fix.Kinds as fix-kinds
-use Rattle.filter.proofs.+fix+prune+settle_slot+strike.Lts-fix as fix-lts
+use Rattle.filter.proofs.+fix+follow+prune+settle_slot+strike.Lts-fix as fix-lts
+use Rattle.filter.proofs.follow.Reads as follow
+use Rattle.filter.proofs.follow.Kinds as follow-kinds
+use Rattle.filter.proofs.+fix+follow+prune+settle_slot+strike.Lts-follow as follow-lts
 use Rattle.filter.proofs.prune.Reads as prune
 use Rattle.filter.proofs.prune.Kinds as prune-kinds
-use Rattle.filter.proofs.+fix+prune+settle_slot+strike.Lts-prune as prune-lts
+use Rattle.filter.proofs.+fix+follow+prune+settle_slot+strike.Lts-prune as prune-lts
 use Rattle.filter.proofs.settle_slot.Reads as settle-slot
 use Rattle.filter.proofs.settle_slot.Kinds as settle-slot-kinds
-use Rattle.filter.proofs.+fix+prune+settle_slot+strike.Lts-settle_slot as settle-slot-lts
+use Rattle.filter.proofs.+fix+follow+prune+settle_slot+strike.Lts-settle_slot as settle-slot-lts
 use Rattle.filter.proofs.strike.Reads as strike
 use Rattle.filter.proofs.strike.Kinds as strike-kinds
-use Rattle.filter.proofs.+fix+prune+settle_slot+strike.Lts-strike as strike-lts
+use Rattle.filter.proofs.+fix+follow+prune+settle_slot+strike.Lts-strike as strike-lts
 use Rattle.filter.proofs.has_value.Reads as has-value-reads
 use Rattle.filter.proofs.is_free.Reads as is-free-reads
 use Rattle.filter.proofs.strike_one.Reads as strike-one-reads
-use Rattle.filter.proofs.+fix+prune+settle_slot+strike.{statement}
-use Rattle.filter.proofs.+fix+prune+settle_slot+strike.Tie.{close}
+use Rattle.filter.proofs.+fix+follow+prune+settle_slot+strike.{statement}
+use Rattle.filter.proofs.+fix+follow+prune+settle_slot+strike.Tie.{close}
 
 -- the values below w but v are gone
 record FixInv (n k slot v : ℕ) (masks₀ cells₀ trail₀ : List ℕ) (h₀ : ℕ) (masks cells trail : List ℕ) (h w : ℕ) : Type 0 where
@@ -52,22 +57,31 @@ record PruneInv (lower : Bool) (n k v end : ℕ) (masks₀ cells₀ trail₀ : L
   within : s ≤ end
 
 abbrev μ-fix : Measures 3 fix-kinds.ps ℕ
-μ-fix κs a = 4 * total (a .0 .now) + 1
+μ-fix κs a = 5 * total (a .0 .now) + 1
+
+abbrev μ-follow : Measures 3 follow-kinds.ps ℕ
+μ-follow κs a = 5 * total (a .0 .now) + 4
 
 abbrev μ-prune : Measures 3 prune-kinds.ps ℕ
-μ-prune κs a = 4 * total (a .0 .now) + 3
+μ-prune κs a = 5 * total (a .0 .now) + 3
 
 abbrev μ-settle-slot : Measures 3 settle-slot-kinds.ps ℕ
-μ-settle-slot κs a = 4 * total (a .0 .now) + 2
+μ-settle-slot κs a = 5 * total (a .0 .now) + 2
 
 abbrev μ-strike : Measures 3 strike-kinds.ps ℕ
-μ-strike κs a = 4 * total (a .0 .now)
+μ-strike κs a = 5 * total (a .0 .now)
 
 abbrev fix-at : ℕ → In 3 fix-kinds.ps
 fix-at t = and 3 fix-kinds.ps (is 3 fix-kinds.ps μ-fix t) fix.Pre
 
 abbrev fix-below : ℕ → In 3 fix-kinds.ps
 fix-below t = and 3 fix-kinds.ps (falls 3 fix-kinds.ps _<_ μ-fix t) fix.Pre
+
+abbrev follow-at : ℕ → In 3 follow-kinds.ps
+follow-at t = and 3 follow-kinds.ps (is 3 follow-kinds.ps μ-follow t) follow.Pre
+
+abbrev follow-below : ℕ → In 3 follow-kinds.ps
+follow-below t = and 3 follow-kinds.ps (falls 3 follow-kinds.ps _<_ μ-follow t) follow.Pre
 
 abbrev prune-at : ℕ → In 3 prune-kinds.ps
 prune-at t = and 3 prune-kinds.ps (is 3 prune-kinds.ps μ-prune t) prune.Pre
@@ -99,7 +113,10 @@ abbrev fix-calls : ℕ → fix-lts.Claims
 fix-calls t = (strike-below t, strike.Post)
 
 abbrev strike-calls : ℕ → strike-lts.Claims
-strike-calls t = (has-value-reads.Asked, has-value-reads.Learnt, strike-one-reads.Asked, strike-one-reads.Learnt, prune-below t, prune.Post)
+strike-calls t = (has-value-reads.Asked, has-value-reads.Learnt, strike-one-reads.Asked, strike-one-reads.Learnt, follow-below t, follow.Post)
+
+abbrev follow-calls : ℕ → follow-lts.Claims
+follow-calls t = (prune-below t, prune.Post)
 
 abbrev fix-Inv-loop : fix-lts.InvT-loop
 fix-Inv-loop masks₀ cells₀ trail₀ n k top slot v h₀ w₀ masks cells trail h w = FixInv n k slot v masks₀ cells₀ trail₀ h₀ masks cells trail h w
@@ -326,87 +343,119 @@ strike-returns-2 t c =
     .before .before .args in
     strike-contradicted (answer-contradicted _ _ _ _ _ (args .top) _ _ _ _ _ (strike-one .ensures) (c .enum-told .given .1))
 
-strike-add-prune : (t : ℕ) → strike-lts.Need-add-prune (strike-calls t) (strike-at t) strike.Post
-strike-add-prune t c =
-    let if1 = c .before .before .before .before .before .before .before .before .before .before .before .before .before .before .before .before
-    .if1 in
-    let has-value = c .before .before .before .before .before .before .before .before .before .before .before .before .before .before .before .before
+strike-add-t25 : (t : ℕ) → strike-lts.Need-add-t25 (strike-calls t) (strike-at t) strike.Post
+strike-add-t25 t c =
+    let if1 = c .before .before .before .before .before .before .before .before .before .before .before .before .before .before .before .if1 in
+    let has-value = c .before .before .before .before .before .before .before .before .before .before .before .before .before .before .before
     .before .has-value in
     let fits = c .before .before .before .before .before .before .before .before .before .before .before .before .before .before .before .before
-    .before .before .before .before .before .before .fits in
+    .before .before .before .before .before .fits in
     let pre = c .before .before .before .before .before .before .before .before .before .before .before .before .before .before .before .before
-    .before .before .before .before .before .before .pre in
+    .before .before .before .before .before .pre in
     omega (arith, ready-room (pre .1) (eqb-true _ _ (sym (has-value .ensures) ∙ not-false _ (if1 .left))), fits)
-
-strike-prune-requires : (t : ℕ) → strike-lts.Need-prune-requires (strike-calls t) (strike-at t) strike.Post
-strike-prune-requires t c κs =
-    let o = c .before .before .before .before .o in
-    let strike-one = c .before .before .before .before .before .before .before .before .before .before .before .before .strike-one in
-    let args = c .before .before .before .before .before .before .before .before .before .before .before .before .before .before .before .before
-    .before .before .before .before .before .before .args in
-    let pre = c .before .before .before .before .before .before .before .before .before .before .before .before .before .before .before .before
-    .before .before .before .before .before .before .pre in
-    let made = answer-removed _ _ _ _ _ (args .top) _ _ _ _ _ (strike-one .ensures) (o .given .1) in (
-      omega (arith, made .moved .height, pre .0),
-      record { world = world-moved (pre .1 .world) (made .moved); end-in = made .low-in; value-in = pre .1 .value-in },
-    )
-
-strike-enum-known-p : (t : ℕ) → strike-lts.Need-enum-known-p (strike-calls t) (strike-at t) strike.Post
-strike-enum-known-p t c = search needs
-
-strike-prune-requires-2 : (t : ℕ) → strike-lts.Need-prune-requires-2 (strike-calls t) (strike-at t) strike.Post
-strike-prune-requires-2 t c κs =
-    let p = c .before .before .before .before .p in
-    let prune = c .before .before .before .before .before .before .before .before .before .before .before .before .prune in
-    let o = c .before .before .before .before .before .before .before .before .before .before .before .before .before .before .before .before .before
-    .o in
-    let strike-one = c .before .before .before .before .before .before .before .before .before .before .before .before .before .before .before .before
-    .before .before .before .before .before .before .before .before .before .strike-one in
-    let args = c .before .before .before .before .before .before .before .before .before .before .before .before .before .before .before .before
-    .before .before .before .before .before .before .before .before .before .before .before .before .before .before .before .before .before .before
-    .before .args in
-    let pre = c .before .before .before .before .before .before .before .before .before .before .before .before .before .before .before .before
-    .before .before .before .before .before .before .before .before .before .before .before .before .before .before .before .before .before .before
-    .before .pre in
-    let made = answer-removed _ _ _ _ _ (args .top) _ _ _ _ _ (strike-one .ensures) (o .given .1) in
-    let low = filtered-at (p .given .1) (prune .ensures) in (
-      omega (arith, made .moved .height, total-less (low .moved .within), pre .0),
-      record { world = world-moved (world-moved (pre .1 .world) (made .moved)) (low .moved); end-in = made .high-in; value-in = made .value-in },
-    )
 
 strike-returns-3 : (t : ℕ) → strike-lts.Need-returns-3 (strike-calls t) (strike-at t) strike.Post
 strike-returns-3 t c =
-    let prune2 = c .before .before .before .before .before .before .prune2 in
-    let p = c .before .before .before .before .before .before .before .before .before .before .before .p in
-    let prune = c .before .before .before .before .before .before .before .before .before .before .before .before .before .before .before .before
-    .before .before .before .prune in
-    let o = c .before .before .before .before .before .before .before .before .before .before .before .before .before .before .before .before .before
-    .before .before .before .before .before .before .before .o in
-    let strike-one = c .before .before .before .before .before .before .before .before .before .before .before .before .before .before .before .before
-    .before .before .before .before .before .before .before .before .before .before .before .before .before .before .before .before .strike-one in
+    let o = c .before .before .before .o in
+    let strike-one = c .before .before .before .before .before .before .before .before .before .before .before .strike-one in
     let args = c .before .before .before .before .before .before .before .before .before .before .before .before .before .before .before .before
-    .before .before .before .before .before .before .before .before .before .before .before .before .before .before .before .before .before .before
-    .before .before .before .before .before .before .before .before .args in
-    let pre = c .before .before .before .before .before .before .before .before .before .before .before .before .before .before .before .before
-    .before .before .before .before .before .before .before .before .before .before .before .before .before .before .before .before .before .before
-    .before .before .before .before .before .before .before .before .pre in
+    .before .before .before .before .before .args in
     let made = answer-removed _ _ _ _ _ (args .top) _ _ _ _ _ (strike-one .ensures) (o .given .1) in
-    let low = filtered-at (p .given .1) (prune .ensures) in
-    strike-pruned made low (pre .1 .world .alive) (prune2 .ensures)
+    strike-followed made (follow-none (c .before .if2 .taken) (eqb-true (o .given .0 .1 .0) 0 (c .if3 .taken)))
 
-strike-enum-known-p-2 : (t : ℕ) → strike-lts.Need-enum-known-p-2 (strike-calls t) (strike-at t) strike.Post
-strike-enum-known-p-2 t c = search needs
+strike-add-follow : (t : ℕ) → strike-lts.Need-add-follow (strike-calls t) (strike-at t) strike.Post
+strike-add-follow t c =
+    let has-value = c .before .before .before .before .before .before .before .before .before .before .before .before .before .before .before
+    .before .before .before .has-value in
+    let start = c .before .before .before .before .before .before .before .before .before .before .before .before .before .before .before .before
+    .before .before .before .before .before .before .before .pre in
+    omega (
+      arith,
+      ready-room (start .1) (eqb-true _ _ (sym (has-value .ensures) ∙ not-false _ (c .before .before .before .before .before .before
+          .before .before .before .before .before .before .before .before .before .before .before .if1 .left))),
+      c .before .before .before .before .before
+          .before .before .before .before .before .before .before .before .before .before .before .before .before .before .before .before .before .before
+          .fits,
+    )
+
+strike-follow-requires : (t : ℕ) → strike-lts.Need-follow-requires (strike-calls t) (strike-at t) strike.Post
+strike-follow-requires t c κs =
+    let o = c .before .before .before .before .before .o in
+    let strike-one = c .before .before .before .before .before .before .before .before .before .before .before .before .before .strike-one in
+    let args = c .before .before .before .before .before .before .before .before .before .before .before .before .before .before .before .before
+    .before .before .before .before .before .before .before .args in
+    let pre = c .before .before .before .before .before .before .before .before .before .before .before .before .before .before .before .before
+    .before .before .before .before .before .before .before .pre in
+    let made = answer-removed _ _ _ _ _ (args .top) _ _ _ _ _ (strike-one .ensures) (o .given .1) in
+    let world = world-moved (pre .1 .world) (made .moved) in (
+      omega (arith, made .moved .height, pre .0),
+      (
+        record { world = world; end-in = made .low-in; value-in = pre .1 .value-in },
+        record { world = world; end-in = made .high-in; value-in = made .value-in },
+      ),
+    )
 
 strike-returns-4 : (t : ℕ) → strike-lts.Need-returns-4 (strike-calls t) (strike-at t) strike.Post
 strike-returns-4 t c =
-    let prune = c .before .before .before .before .before .before .before .before .before .prune in
-    let o = c .before .before .before .before .before .before .before .before .before .before .before .before .before .before .o in
-    let strike-one = c .before .before .before .before .before .before .before .before .before .before .before .before .before .before .before .before
-    .before .before .before .before .before .before .strike-one in
+    let follow = c .before .before .before .before .before .before .follow in
+    let o = c .before .before .before .before .before .before .before .before .before .before .before .before .o in
+    let strike-one = c .before .before .before .before .before .before .before .before .before .before .before .before .before .before .before
+    .before .before .before .before .before .strike-one in
     let args = c .before .before .before .before .before .before .before .before .before .before .before .before .before .before .before .before
-    .before .before .before .before .before .before .before .before .before .before .before .before .before .before .before .before .args in
+    .before .before .before .before .before .before .before .before .before .before .before .before .before .before .args in
     let made = answer-removed _ _ _ _ _ (args .top) _ _ _ _ _ (strike-one .ensures) (o .given .1) in
-    strike-dead made (filtered-at (c .before .p2 .given .1) (prune .ensures))
+    strike-followed made (follow .ensures)
+
+follow-prune-requires : (t : ℕ) → follow-lts.Need-prune-requires (follow-calls t) (follow-at t) follow.Post
+follow-prune-requires t c κs =
+    let pre = c .before .before .before .before .before .before .before .pre in
+    (omega (arith, pre .0), pre .1 .1)
+
+follow-returns : (t : ℕ) → follow-lts.Need-returns (follow-calls t) (follow-at t) follow.Post
+follow-returns t c =
+    follow-high (c .before .before .before .before .before .before .before .before .before .before .if1 .taken) (c .before .before .before .before
+    .before .before .prune .ensures)
+
+follow-prune-requires-2 : (t : ℕ) → follow-lts.Need-prune-requires-2 (follow-calls t) (follow-at t) follow.Post
+follow-prune-requires-2 t c κs =
+    let pre = c .before .before .before .before .before .before .before .pre in
+    (omega (arith, pre .0), pre .1 .0)
+
+follow-enum-known-p : (t : ℕ) → follow-lts.Need-enum-known-p (follow-calls t) (follow-at t) follow.Post
+follow-enum-known-p t c = search needs
+
+follow-returns-2 : (t : ℕ) → follow-lts.Need-returns-2 (follow-calls t) (follow-at t) follow.Post
+follow-returns-2 t c =
+    follow-low (c .if2 .taken) (filtered-at (c .before .before .p .given .1) (c .before .before .before .before .before .before .before .before
+    .before .before .prune2 .ensures))
+
+follow-prune-requires-3 : (t : ℕ) → follow-lts.Need-prune-requires-3 (follow-calls t) (follow-at t) follow.Post
+follow-prune-requires-3 t c κs =
+    let prune2 = c .before .before .before .before .before .before .before .before .before .before .before .before .before .prune2 in
+    let pre = c .before .before .before .before .before .before .before .before .before .before .before .before .before .before .before .before
+    .before .before .before .before .before .pre in
+    let low = filtered-at (c .before .before .before .before .before .p .given .1) (prune2 .ensures) in (
+      omega (arith, total-less (low .moved .within), pre .0),
+      record { world = world-moved (pre .1 .0 .world) (low .moved); end-in = pre .1 .1 .end-in; value-in = pre .1 .1 .value-in },
+    )
+
+follow-returns-3 : (t : ℕ) → follow-lts.Need-returns-3 (follow-calls t) (follow-at t) follow.Post
+follow-returns-3 t c =
+    let prune3 = c .before .before .before .before .before .before .prune3 in
+    let p = c .before .before .before .before .before .before .before .before .before .before .before .before .p in
+    let prune2 = c .before .before .before .before .before .before .before .before .before .before .before .before .before .before .before .before
+    .before .before .before .before .prune2 in
+    let pre = c .before .before .before .before .before .before .before .before .before .before .before .before .before .before .before .before
+    .before .before .before .before .before .before .before .before .before .before .before .before .pre in
+    follow-both (pre .1 .0 .world .alive) (filtered-at (p .given .1) (prune2 .ensures)) (prune3 .ensures)
+
+follow-enum-known-p-2 : (t : ℕ) → follow-lts.Need-enum-known-p-2 (follow-calls t) (follow-at t) follow.Post
+follow-enum-known-p-2 t c = search needs
+
+follow-returns-4 : (t : ℕ) → follow-lts.Need-returns-4 (follow-calls t) (follow-at t) follow.Post
+follow-returns-4 t c =
+    let prune2 = c .before .before .before .before .before .before .before .before .before .prune2 in
+    follow-dead (filtered-at (c .before .p2 .given .1) (prune2 .ensures))
 
 fix-same-length : (t : ℕ) → fix-lts.Need-same-length (fix-calls t) (fix-at t) fix.Post fix-Inv-loop fix-μ-loop
 fix-same-length t c = search needs
@@ -492,13 +541,54 @@ strike-same-length-9 t c = strike-returns-4 t c .moved .cells-size
 strike-same-length-10 : (t : ℕ) → strike-lts.Need-same-length-10 (strike-calls t) (strike-at t) strike.Post
 strike-same-length-10 t c = strike-returns-4 t c .moved .trailed .size
 
-pub +fix+prune+settle-slot+strike-spec : {M : Type 1} → statement M
-+fix+prune+settle-slot+strike-spec =
-    close μ-fix μ-prune μ-settle-slot μ-strike
+follow-same-length : (t : ℕ) → follow-lts.Need-same-length (follow-calls t) (follow-at t) follow.Post
+follow-same-length t c = follow-returns t c .moved .within .len
+
+follow-same-length-2 : (t : ℕ) → follow-lts.Need-same-length-2 (follow-calls t) (follow-at t) follow.Post
+follow-same-length-2 t c = follow-returns t c .moved .cells-size
+
+follow-same-length-3 : (t : ℕ) → follow-lts.Need-same-length-3 (follow-calls t) (follow-at t) follow.Post
+follow-same-length-3 t c = follow-returns t c .moved .trailed .size
+
+follow-same-length-4 : (t : ℕ) → follow-lts.Need-same-length-4 (follow-calls t) (follow-at t) follow.Post
+follow-same-length-4 t c = follow-returns-2 t c .moved .within .len
+
+follow-same-length-5 : (t : ℕ) → follow-lts.Need-same-length-5 (follow-calls t) (follow-at t) follow.Post
+follow-same-length-5 t c = follow-returns-2 t c .moved .cells-size
+
+follow-same-length-6 : (t : ℕ) → follow-lts.Need-same-length-6 (follow-calls t) (follow-at t) follow.Post
+follow-same-length-6 t c = follow-returns-2 t c .moved .trailed .size
+
+follow-same-length-7 : (t : ℕ) → follow-lts.Need-same-length-7 (follow-calls t) (follow-at t) follow.Post
+follow-same-length-7 t c = follow-returns-3 t c .moved .within .len
+
+follow-same-length-8 : (t : ℕ) → follow-lts.Need-same-length-8 (follow-calls t) (follow-at t) follow.Post
+follow-same-length-8 t c = follow-returns-3 t c .moved .cells-size
+
+follow-same-length-9 : (t : ℕ) → follow-lts.Need-same-length-9 (follow-calls t) (follow-at t) follow.Post
+follow-same-length-9 t c = follow-returns-3 t c .moved .trailed .size
+
+follow-same-length-10 : (t : ℕ) → follow-lts.Need-same-length-10 (follow-calls t) (follow-at t) follow.Post
+follow-same-length-10 t c = follow-returns-4 t c .moved .within .len
+
+follow-same-length-11 : (t : ℕ) → follow-lts.Need-same-length-11 (follow-calls t) (follow-at t) follow.Post
+follow-same-length-11 t c = follow-returns-4 t c .moved .cells-size
+
+follow-same-length-12 : (t : ℕ) → follow-lts.Need-same-length-12 (follow-calls t) (follow-at t) follow.Post
+follow-same-length-12 t c = follow-returns-4 t c .moved .trailed .size
+
+pub +fix+follow+prune+settle-slot+strike-spec : {M : Type 1} → statement M
++fix+follow+prune+settle-slot+strike-spec =
+    close μ-fix μ-follow μ-prune μ-settle-slot μ-strike
     (λ t. fix-lts.spec (fix-calls t) (fix-at t) fix.Post fix-Inv-loop fix-μ-loop (fix-loop-holds t) (fix-add-w t) (fix-loop-less t)
     (fix-loop-again t) (fix-strike-requires t) (fix-enum-known-o t) (fix-enum-known-o-2 t) (fix-same-length t) (fix-same-length-2 t)
     (fix-same-length-3 t) (fix-returns t) (fix-add-w-2 t) (fix-loop-less-2 t) (fix-loop-again-2 t) (fix-same-length-4 t) (fix-same-length-5 t)
     (fix-same-length-6 t) (fix-returns-2 t))
+    (λ t. follow-lts.spec (follow-calls t) (follow-at t) follow.Post (follow-prune-requires t) (follow-same-length t) (follow-same-length-2 t)
+    (follow-same-length-3 t) (follow-returns t) (follow-prune-requires-2 t) (follow-enum-known-p t) (follow-same-length-4 t) (follow-same-length-5 t)
+    (follow-same-length-6 t) (follow-returns-2 t) (follow-prune-requires-3 t) (follow-same-length-7 t) (follow-same-length-8 t)
+    (follow-same-length-9 t) (follow-returns-3 t) (follow-enum-known-p-2 t) (follow-same-length-10 t) (follow-same-length-11 t)
+    (follow-same-length-12 t) (follow-returns-4 t))
     (λ t. prune-lts.spec (prune-calls t) (prune-at t) prune.Post prune-Inv-loop prune-μ-loop (prune-loop-holds t) (prune-is-free-requires t)
     (prune-add-s t) (prune-loop-less t) (prune-loop-again t) (prune-settle-slot-requires t) (prune-enum-known-o t) (prune-enum-known-o-2 t)
     (prune-same-length t) (prune-same-length-2 t) (prune-same-length-3 t) (prune-returns t) (prune-add-s-2 t) (prune-loop-less-2 t)
@@ -508,6 +598,6 @@ pub +fix+prune+settle-slot+strike-spec : {M : Type 1} → statement M
     (settle-slot-same-length-5 t) (settle-slot-same-length-6 t) (settle-slot-returns-2 t))
     λ t. strike-lts.spec (strike-calls t) (strike-at t) strike.Post (strike-has-value-requires t) (strike-same-length t) (strike-returns t)
     (strike-strike-one-requires t) (strike-enum-known-o t) (strike-enum-told t) (strike-same-length-2 t) (strike-same-length-3 t)
-    (strike-same-length-4 t) (strike-returns-2 t) (strike-add-prune t) (strike-prune-requires t) (strike-enum-known-p t) (strike-prune-requires-2 t)
-    (strike-same-length-5 t) (strike-same-length-6 t) (strike-same-length-7 t) (strike-returns-3 t) (strike-enum-known-p-2 t) (strike-same-length-8 t)
-    (strike-same-length-9 t) (strike-same-length-10 t) (strike-returns-4 t)
+    (strike-same-length-4 t) (strike-returns-2 t) (strike-add-t25 t) (strike-same-length-5 t) (strike-same-length-6 t) (strike-same-length-7 t)
+    (strike-returns-3 t) (strike-add-follow t) (strike-follow-requires t) (strike-same-length-8 t) (strike-same-length-9 t) (strike-same-length-10 t)
+    (strike-returns-4 t)
