@@ -6,14 +6,14 @@
 use mathlib.Core.Path.{_≡_, refl, sym, ap, _∙_}
 use mathlib.Core.Logic.{dite}
 use Prim.Native.Nat.{ℕ, zero, suc, _+_, _-_, _*_, _/_, _%_, _^_, _≤_, _<_, zero-le, suc-le-suc}
-use native.Mathlib.Nat.{div-mul-le-self, mul-le-mul-right, le-refl, le-trans, le-antisymm, pow-suc, mul-assoc, div-one, mod-le, zero-div, div-self, le-of-eq, add-div-right, div-eq-of-lt, lt-of-lt-of-le, zero-add}
+use native.Mathlib.Nat.{div-mul-le-self, mul-le-mul-right, le-refl, le-trans, le-antisymm, pow-suc, mul-assoc, div-one, mod-le, mod-eq-of-lt, one-mul, lt-of-not-le, zero-div, div-self, le-of-eq, add-div-right, div-eq-of-lt, lt-of-lt-of-le, zero-add}
 use native.Mathlib.Numerals.{one-add}
 use native.Mathlib.Omega.{arith}
 use native.Mathlib.Decide.{ℕ-discrete}
 use lib.Arith.{bin-ind}
-use lib.Pow.{shr-shr, pow-pos, pow-mono}
+use lib.Pow.{shr-shr, pow-pos, pow-mono, pow-lt}
 use lib.Count.{ones, ones-step, ones-le, trailingZeros, under}
-use Rattle.domains.specs.Mask.{testBit, clearBit, Mask·Subset, Has, Fixed}
+use Rattle.domains.specs.Mask.{testBit, clearBit, Mask·Subset, Has, Fixed, Lowest}
 
 -- ---- testBit
 
@@ -172,6 +172,11 @@ ones-same =
     let half : a / 2 ≡ b / 2 = ih (b / 2) rest (omega (arith, ones-step a, ones-step b)) in
     omega (arith, ones-step a, ones-step b, ones-subset (a / 2) (b / 2) rest)
 
+-- a value fewer, fewer ones
+pub ones-less : (a b w : ℕ) → ((v : ℕ) → testBit a v ≤ testBit b v) → testBit a w ≡ 0 → Has b w → ones a < ones b
+ones-less a b w sub lacks has =
+    lt-of-not-le (λ as-many. omega (arith, ap (λ (x : ℕ). testBit x w) (ones-same a b sub as-many)))
+
 -- ---- Fixed
 
 -- a power of two has its value, and no other
@@ -247,6 +252,33 @@ pub single-alone : (m v w : ℕ) → ones m ≡ 1 → Has m v → (w ≡ v → �
 single-alone m v w one has w≢v =
     let none : clearBit m v ≡ 0 = ones-empty (clearBit m v) (omega (arith, ones-clearBit m v)) in
     sym (testBit-clearBit-other m v w w≢v) ∙ ap (λ (x : ℕ). testBit x w) none ∙ testBit-empty w
+
+-- a 1 that is shifted to v's place
+pub shifted : (v : ℕ) → v < 32 → 1 * 2 ^ v % 2 ^ 32 ≡ 2 ^ v
+shifted v v<32 = ap (λ (x : ℕ). x % 2 ^ 32) (one-mul (2 ^ v)) ∙ mod-eq-of-lt (pow-lt v<32)
+
+-- ---- Lowest
+
+even-first : (m t : ℕ) → m % 2 ≡ 0 → ((w : ℕ) → w < t → testBit (m / 2) w ≡ 0) → (w : ℕ) → w < suc t → testBit m w ≡ 0
+even-first m t even first zero inside = testBit-zero m ∙ even
+even-first m t even first (suc w) inside = testBit-suc m w ∙ first w (omega arith)
+
+-- one step of the next law: the lowest bit d is 0, and the half has a bit, or it is 1
+lowest-step : (k m d : ℕ) → m % 2 ≡ d → d < 2 → 0 < m → (0 < m / 2 → (trailingZeros k (m / 2) < k) × Lowest (m / 2) (trailingZeros k (m / 2)))
+    → (under (m % 2) (trailingZeros k (m / 2)) < suc k) × Lowest m (under (m % 2) (trailingZeros k (m / 2)))
+lowest-step k m zero p h some ih =
+    let t = trailingZeros k (m / 2) in
+    let s = ih (omega arith) in
+    rw p (suc-le-suc (s .0), record { has = testBit-suc m t ∙ s .1 .has; first = even-first m t p (s .1 .first) })
+lowest-step k m (suc zero) p h some ih =
+    rw p (suc-le-suc zero-le, record { has = testBit-zero m ∙ p; first = λ w w<0. absurd (omega arith) })
+lowest-step k m (suc (suc d)) p h some ih = absurd (omega arith)
+
+pub trailing-lowest : (k m : ℕ) → m < 2 ^ k → 0 < m → (trailingZeros k m < k) × Lowest m (trailingZeros k m)
+unfolding trailingZeros
+trailing-lowest zero m h some = absurd (omega arith)
+trailing-lowest (suc k) m h some =
+    lowest-step k m (m % 2) refl (omega arith) some (λ half. trailing-lowest k (m / 2) (omega (arith, pow-suc 2 k)) half)
 
 -- ---- Mask·Subset
 

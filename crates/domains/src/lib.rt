@@ -4,7 +4,7 @@ ghost use mathlib.Core.Path.{_≡_};
 ghost use Prim.Native.Nat.{_+_, _<_, _^_};
 ghost use lib.Dec.{eqb};
 ghost use lib.Count.{ones};
-ghost use Rattle.domains.specs.Mask.{testBit, clearBit, Fixed};
+ghost use Rattle.domains.specs.Mask.{testBit, clearBit, Fixed, Lowest};
 
 // Whether value v is in m.
 pub fn has(m: u32, v: u32) -> bool
@@ -50,4 +50,20 @@ pub fn single_value(m: u32) -> u32
     ensures { λ r. ⌜ (r < 32) × Fixed m r ⌝ }
 {
     u32::trailing_zeros(m)
+}
+
+// The lowest value of m, where it has any.
+pub fn lowest(m: u32) -> u32
+    requires { ⌜ 0 < m ⌝ }
+    ensures { λ r. ⌜ (r < 32) × Lowest m r ⌝ }
+{
+    u32::trailing_zeros(m)
+}
+
+// The mask that is fixed to v.
+pub fn only(v: u32) -> u32
+    requires { ⌜ v < 32 ⌝ }
+    ensures { λ r. ⌜ Fixed r v ⌝ }
+{
+    1 << v
 }

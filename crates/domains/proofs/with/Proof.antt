@@ -1,16 +1,9 @@
 -- `domains::with` meets its contract: the bit at its place, and the sum, stay below 2 ^ 32 (`put-lt`). Assumes nothing.
-use mathlib.Core.Path.{_≡_, ap, _∙_}
-use Prim.Native.Nat.{ℕ, _*_, _%_, _^_, _<_}
-use native.Mathlib.Nat.{mod-eq-of-lt, one-mul}
 use native.Mathlib.Omega.{arith}
-use lib.Pow.{pow-lt}
 use borrow.Author.Needs.{needs}
-use Rattle.domains.proofs.MaskLaws.{put-lt}
+use Rattle.domains.proofs.MaskLaws.{shifted, put-lt}
 use Rattle.domains.proofs.with.Statement.{statement}
 use Rattle.domains.proofs.with.Tie as tie
-
-shifted : (v : ℕ) → v < 32 → 1 * 2 ^ v % 2 ^ 32 ≡ 2 ^ v
-shifted v v<32 = ap (λ (x : ℕ). x % 2 ^ 32) (one-mul (2 ^ v)) ∙ mod-eq-of-lt (pow-lt v<32)
 
 shl-result : tie.Need-shl-result
 shl-result c = search needs
