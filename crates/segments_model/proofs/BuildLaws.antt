@@ -1,6 +1,6 @@
 -- The laws of `Done` of specs/Build.antt: the start (`done-none`), one prefix more (`done-skip`, `done-insert`), cells pointed at the first right
 -- end (`done-point`), and the end (`segments-done`). No contract cites this file. Assumes nothing.
-use mathlib.Core.Path.{_≡_, sym, ap, _∙_, subst}
+use mathlib.Core.Path.{_≡_, sym, ap, _∙_}
 use mathlib.Core.Bool.{Bool, true, false, true≢false}
 use mathlib.Core.Logic.{dite}
 use mathlib.Core.List.{List}
@@ -10,7 +10,7 @@ use native.Mathlib.Omega.{arith}
 use lib.ListN.{length, getD}
 use Rattle.segments_model.specs.Lines.{cornerOf, gain, loss, slackOf, Unbroken, Segments}
 use Rattle.segments_model.specs.Links.{gaps, Fresh}
-use Rattle.segments_model.specs.Build.{Filling, Laid, Inserted, Pointed, Done}
+use Rattle.segments_model.specs.Build.{Laid, Inserted, Pointed, Done}
 use Rattle.segments_model.proofs.FillingLaws.{filling-none, filling-all, filling-skip}
 use Rattle.segments_model.proofs.LinksLaws.{gaps-first, gaps-link, link-next}
 use Rattle.segments_model.proofs.LinkedLaws.{gaps-pointed, linked-pointed}

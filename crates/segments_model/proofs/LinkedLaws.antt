@@ -12,7 +12,7 @@ use lib.Seq.{getD-set-same, getD-set-other, ext-getD}
 use Rattle.segments_model.specs.Build.{Pointed}
 use Rattle.segments_model.specs.Links.{gapOf, gaps, target, Link, Linked, Fresh}
 use Rattle.segments_model.specs.Search.{Gap, Next, Previous}
-use Rattle.segments_model.proofs.LinksLaws.{gapOf-link, gaps-length, gaps-first, gaps-at, gaps-set, gaps-end, gaps-link, link-kept, link-next}
+use Rattle.segments_model.proofs.LinksLaws.{gapOf-link, gaps-length, gaps-first, gaps-at, gaps-set, gaps-link, link-kept, link-next}
 
 -- ---- one store
 

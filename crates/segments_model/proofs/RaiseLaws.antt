@@ -9,7 +9,7 @@ use lib.ListN.{length, getD, set, length-set}
 use lib.Seq.{getD-set-same, getD-set-other, set-getD, set-set, set-comm}
 use borrow.Author.Tests.{lt-ltb, le-ltb, eq-eqb, ne-eqb}
 use Rattle.segments_model.specs.Links.{nextOf}
-use Rattle.segments_model.specs.Raise.{risenAt, risen, Raisable, Reversal}
+use Rattle.segments_model.specs.Raise.{risenAt, risen, Reversal}
 use Rattle.segments_model.proofs.LinksLaws.{next-after, next-stands, next-same}
 
 -- ---- the cases

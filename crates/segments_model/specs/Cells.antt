@@ -1,5 +1,6 @@
 -- The segments of one value and one kind of bound, over a bare slack function on the prefixes 1 to n, and the cells that hold them.
--- C tells the corners and f their slack. A segment reaches up to its right end (document 01: a wall) from behind the one before.
+-- C tells the corners and f their slack. A segment reaches up to its right end (document 01: a wall) from behind the one before. The cells here
+-- and in specs/Covers.antt are gaps; how they are stored is in specs/Links.antt.
 --   upTo g t             the sum of g over the prefixes 1 to t
 --   sumTo cells t        the sum of the cells 1 to t
 --   Stands n C f t       t, from 1 to n, is the right end of a segment: a corner whose slack is above 0 and below that of every later corner

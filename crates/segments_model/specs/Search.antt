@@ -1,4 +1,4 @@
--- What the searches along the cells find. A right end is a cell above 0 from 1 on.
+-- What the searches along the cells find, said of their gaps (`gaps` of specs/Links.antt). A right end is a cell above 0 from 1 on.
 --   Gap cells a b          the cells from a to b - 1 are 0
 --   Next n slot cells t    t is the first right end after the slot, or n + 1
 --   Previous slot cells p  p is the last right end up to the slot, or 0

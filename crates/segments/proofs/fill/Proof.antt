@@ -1,16 +1,16 @@
 -- `segments::fill` meets its contract. The invariant: t is at most n, the list is as long as it was, the counts stand at t (`Counts`), and the
--- corners after t are done (`DoneAfter`). The measure is t. One turn: `turn-onward`, `done-back` and `done-point`; it ends with `turn-broken` or
+-- corners after t are done (`DoneAfter`). The measure is t. One turn: `turn-onward` and `done-on`; it ends with `turn-broken` or
 -- `built-all`. Assumes nothing.
 use mathlib.Core.Path.{_≡_, refl}
-use Prim.Native.Nat.{_+_, _≤_}
+use Prim.Native.Nat.{_≤_}
 use native.Mathlib.Omega.{arith}
 use borrow.Author.Needs.{needs}
 use lib.ListN.{length}
 use Rattle.segments_model.specs.Build.{Counts}
-use Rattle.segments_model.proofs.BuildLaws.{done-none, done-point}
+use Rattle.segments_model.proofs.BuildLaws.{done-none}
 use Rattle.segments_model.proofs.CountsLaws.{choice-bound}
 use Rattle.segments.proofs.BuiltLaws.{DoneAfter, turn-broken, turn-onward, built-broken, built-all}
-use Rattle.segments.proofs.TurnLaws.{done-back, lesser-bounds}
+use Rattle.segments.proofs.TurnLaws.{point-bounds, done-on}
 use Rattle.segments.proofs.fill.Statement.{statement}
 use Rattle.segments.proofs.fill.Tie as tie
 
@@ -71,13 +71,17 @@ previous-corner-requires c κs =
     omega (arith, test .loop-test .taken, turn .loop .inv .0, start .pre .1, start .pre .4)
 
 add-lesser : tie.Need-add-lesser Inv-loop μ-loop
-add-lesser c = omega (arith, c .before .before .before .before .before .before .before .before .before .before .before .before .loop .inv .0, c .before .before .before .before .before .before .before .before .before .before .before .before .before .before .before .before .pre .3)
+add-lesser c =
+    let turn = c .before .before .before .before .before .before .before .before .before .before .before .before in
+    omega (arith, turn .loop .inv .0, turn .before .before .before .before .pre .3)
 
 lesser-requires : tie.Need-lesser-requires Inv-loop μ-loop
 lesser-requires c κs = search needs
 
 add-point : tie.Need-add-point Inv-loop μ-loop
-add-point c = omega (arith, c .before .before .previous-corner .ensures .before, c .before .before .before .before .before .before .before .before .before .before .before .before .before .before .loop .inv .0, c .before .before .before .before .before .before .before .before .before .before .before .before .before .before .before .before .before .before .pre .3)
+add-point c =
+    let turn = c .before .before .before .before .before .before .before .before .before .before .before .before .before .before in
+    omega (arith, c .before .before .previous-corner .ensures .before, turn .loop .inv .0, turn .before .before .before .before .pre .3)
 
 point-requires : tie.Need-point-requires Inv-loop μ-loop
 point-requires c κs =
@@ -85,16 +89,12 @@ point-requires c κs =
     let chosen = visited .before .before in
     let turn = chosen .before .before .before .before in
     let start = turn .before .before .before .before in
-    let first =
-    turn-onward _ (turn .loop .inv .2) _ _ _ (turn .loop .inv .3) (chosen .before .before .corner-at .ensures) (chosen .before .choose .ensures)
-    (chosen .choose2 .ensures) (visited .visit .ensures) (c .before .before .before .before .first .given .1) .laid .filling .first in
-    let found = c .before .before .previous-corner .ensures .before in
-    let past = lesser-bounds (turn .loop .t + 1) (c .before .before .before .before .first .given .0 .0) _ (c .before .lesser .ensures) in (
-      past .2 (c .before .before .previous-corner .result + 1) (omega (arith, found)) (omega (arith, found, first .after)),
-      omega (arith, past .0, turn .loop .inv .0, turn .loop .inv .1, start .pre .0, visited .visit .ensures .size),
-      past .1,
-      omega (arith, first .inside, start .pre .3),
-    )
+    let bounds =
+    point-bounds
+    (turn-onward _ (turn .loop .inv .2) _ _ _ (turn .loop .inv .3) (chosen .before .before .corner-at .ensures) (chosen .before .choose .ensures)
+    (chosen .choose2 .ensures) (visited .visit .ensures) (c .before .before .before .before .first .given .1))
+    (c .before .before .previous-corner .ensures) _ (c .before .lesser .ensures) in
+    omega (arith, bounds, turn .loop .inv .0, turn .loop .inv .1, start .pre .0, start .pre .3, visited .visit .ensures .size)
 
 count-back-requires : tie.Need-count-back-requires Inv-loop μ-loop
 count-back-requires c κs =
@@ -117,15 +117,15 @@ loop-again c =
     let turn = chosen .before .before .before .before in
     let start = turn .before .before .before .before in
     let found = c .before .before .before .before .before .before .previous-corner .ensures in
-    let done =
-    done-back (turn-onward _ (turn .loop .inv .2) _ _ _ (turn .loop .inv .3) (chosen .before .before .corner-at .ensures) (chosen .before .choose .ensures)
-    (chosen .choose2 .ensures) (visited .visit .ensures) (c .before .before .before .before .before .before .before .before .first .given .1)) found in
-    let pointed = c .before .before .before .point .ensures in (
+    let pointed = c .before .before .before .point .ensures in
+    let size : length (visited .visit .last .0) ≡ length (start .args .cells .now) = omega (arith, turn .loop .inv .1, visited .visit .ensures .size) in (
       omega (arith, found .before, turn .loop .inv .0),
-      omega (arith, turn .loop .inv .1, visited .visit .ensures .size, pointed .size),
+      omega (arith, size, pointed .size),
       c .count-back .ensures,
-      done-point done (omega (arith, start .pre .0, turn .loop .inv .1, visited .visit .ensures .size)) _
-          (lesser-bounds _ _ _ (c .before .before .before .before .before .lesser .ensures) .1) _ pointed,
+      done-on
+          (turn-onward _ (turn .loop .inv .2) _ _ _ (turn .loop .inv .3) (chosen .before .before .corner-at .ensures) (chosen .before .choose .ensures)
+          (chosen .choose2 .ensures) (visited .visit .ensures) (c .before .before .before .before .before .before .before .before .first .given .1))
+          found _ (c .before .before .before .before .before .lesser .ensures) (omega (arith, start .pre .0, size)) _ pointed,
     )
 
 same-length-2 : tie.Need-same-length-2 Inv-loop μ-loop

@@ -1,7 +1,7 @@
 -- `segments::next_standing` meets its contract. The invariant: from t on the search ends where it does from the slot (`Seeking`).
 -- The measure is what is left up to n: a link always leads forward. One link taken: `seeking-link`. Assumes nothing.
-use mathlib.Core.Path.{_≡_, sym, subst}
-use Prim.Native.Nat.{ℕ, _+_, _-_, _<_}
+use mathlib.Core.Path.{sym, subst}
+use Prim.Native.Nat.{ℕ, _+_, _-_}
 use native.Mathlib.Omega.{arith}
 use borrow.Author.Needs.{needs}
 use Rattle.segments_model.specs.Links.{target}
