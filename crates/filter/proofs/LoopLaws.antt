@@ -1,23 +1,24 @@
--- What the loops of the cycle pass: the values that `fix` has struck (`Gone`, `fix-strikes`), and the slots that `prune` has settled
+-- What the loops of the cycle pass: the values that `fix` has yet to strike (`Others`, `fix-strikes`), and the slots that `prune` has settled
 -- (`free-concerned`, `settled-cut`). No contract cites this file. Assumes nothing.
-use mathlib.Core.Path.{_≡_, sym, subst}
+use mathlib.Core.Path.{_≡_, sym, ap, subst, _∙_}
 use mathlib.Core.Bool.{Bool, true, false, not}
 use mathlib.Core.Logic.{dite}
 use mathlib.Core.List.{List}
 use Prim.Native.Nat.{ℕ, _+_, _≤_, _<_, zero-le}
 use native.Mathlib.Nat.{lt-of-not-le}
 use native.Mathlib.Numerals.{add-one}
-use native.Mathlib.Decide.{ℕ-discrete, decLt}
+use native.Mathlib.Decide.{ℕ-discrete}
 use native.Mathlib.Omega.{arith}
 use borrow.Author.Tests.{eqb-true, eqb-false}
 use lib.Dec.{eqb}
 use lib.Count.{ones}
 use lib.ListN.{getD}
-use Rattle.domains.specs.Mask.{Has, Fixed}
+use Rattle.domains.specs.Mask.{testBit, clearBit, Has, Fixed}
 use Rattle.domains.specs.Masks.{HasAt, FixedAt, Subset, total}
-use Rattle.domains.proofs.MaskLaws.{testBit-lt, testBit-fixed-same, testBit-fixed-other, fixed-within}
+use Rattle.domains.proofs.MaskLaws.{testBit-lt, testBit-empty, testBit-clearBit-same, testBit-clearBit-other, testBit-clearBit-le}
+use Rattle.domains.proofs.MaskLaws.{ones-less, testBit-fixed-same, testBit-fixed-other, fixed-within}
 use Rattle.domains.proofs.MasksLaws.{has-subset, fixed-has-subset, total-mono}
-use Rattle.settling_model.specs.Settled.{LacksAt, Settled}
+use Rattle.settling_model.specs.Settled.{Settled}
 use Rattle.settling_model.proofs.SettledLaws.{lacks-not-has, settled-more, settled-subset}
 use Rattle.filter_model.specs.Cuts.{StrikeCut, FixCut, SlotCut, Concerned}
 use Rattle.filter_model.specs.State.{World}
@@ -36,34 +37,50 @@ pub free-single : (m v : ℕ) (b : Bool) → Has m v → b ≡ eqb (ones m) 1 �
 free-single m v true has single = λ _. single-has-fixed m v (eqb-true _ _ (sym single)) has
 free-single m v false has many = (has, many-free m (eqb-false _ _ (sym many)) v)
 
--- ---- fix: the values below w but v are gone from the slot
-pub record Gone (slot v w : ℕ) (M : List ℕ) : Type 0 where
-  pub each : (x : ℕ) → x < w → (x ≡ v → ⊥) → LacksAt M slot x
+-- ---- fix: what the slot has but v
+pub record Others (slot v rest : ℕ) (M : List ℕ) : Type 0 where
+  pub is : rest ≡ clearBit (getD M slot 0) v
 
-pub gone-none : (slot v : ℕ) (M : List ℕ) → Gone slot v 0 M
-gone-none slot v M = record { each = λ x x<0. absurd (omega arith) }
+module _ {slot v rest : ℕ} {M : List ℕ} (others : Others slot v rest M) where
+  others-bit : (w : ℕ) → Has rest w → testBit (clearBit (getD M slot 0) v) w ≡ 1
+  others-bit w has = rw (others .is) at has
 
-pub gone-skip : {slot v w : ℕ} {M : List ℕ} → w ≡ v → Gone slot v w M → Gone slot v (w + 1) M
-gone-skip w≡v gone = record { each = λ x x≤w x≢v. gone .each x (lt-of-not-le (λ w≤x. x≢v (omega arith))) x≢v }
+  pub others-has : (w : ℕ) → Has rest w → HasAt M slot w
+  others-has w has =
+      omega (arith, others-bit w has, testBit-clearBit-le (getD M slot 0) v w, testBit-lt (getD M slot 0) w)
 
-pub gone-more : {slot v w : ℕ} {M M′ : List ℕ} → Subset M′ M → Gone slot v w M → StrikeCut slot w M′ → Gone slot v (w + 1) M′
-gone-more {slot} {v} {w} M′⊆M gone cut =
-    record {
-      each = λ x x≤w x≢v.
-          dite (ℕ-discrete x w) (λ last. rw last (cut .lacks)) (λ before. omega (arith, M′⊆M .bits slot x, gone .each x (omega arith) x≢v));
-    }
+  pub others-not : (w : ℕ) → Has rest w → w ≡ v → ⊥
+  others-not w has w≡v =
+      let bit : testBit (clearBit (getD M slot 0) v) v ≡ 1 = rw w≡v at (others-bit w has) in
+      omega (arith, testBit-clearBit-same (getD M slot 0) v)
 
--- a slot that lost all values but v is fixed to v
-pub gone-fixed : {M cells trail : List ℕ} {n k top slot v w : ℕ} → World M cells trail n k top → slot < n → k ≤ w → Gone slot v w M → FixCut slot v M
-gone-fixed {M} {k = k} {slot = slot} {v = v} world slot<n k≤w gone =
-    record {
-      fixed =
-          fixed-within (getD M slot 0) v (world .alive .each slot (omega (arith, world .slots)))
-          (λ x.
-          dite (ℕ-discrete x v) (λ same. rw same (omega (arith, testBit-fixed-same v, testBit-lt (getD M slot 0) v)))
-          (λ other.
-          dite (decLt x k) (λ below. rw (gone .each x (omega arith) other) zero-le) (λ above. rw (world .values slot x (omega arith)) zero-le)));
-    }
+  pub others-value : {cells trail : List ℕ} {n k top w : ℕ} → World M cells trail n k top → Has rest w → w < k
+  others-value {w = w} world has = lt-of-not-le (λ k≤w. lacks-not-has M slot w (world .values slot w k≤w) (others-has w has))
+
+  -- a strike of one of them leaves fewer
+  pub others-less : {rest′ w : ℕ} {M′ : List ℕ} → Subset M′ M → Others slot v rest′ M′ → Has rest w → StrikeCut slot w M′ → ones rest′ < ones rest
+  others-less {rest′} {w} {M′} M′⊆M others′ has cut =
+      let m = getD M slot 0 in
+      let m′ = getD M′ slot 0 in
+      let within : (x : ℕ) → testBit (clearBit m′ v) x ≤ testBit (clearBit m v) x =
+      λ x. dite (ℕ-discrete x v) (λ same. rw (same, testBit-clearBit-same m′ v) zero-le)
+      (λ other. rw (testBit-clearBit-other m′ v x other, testBit-clearBit-other m v x other) (M′⊆M .bits slot x)) in
+      rw (others′ .is, others .is)
+      (ones-less (clearBit m′ v) (clearBit m v) w within (omega (arith, testBit-clearBit-le m′ v w, cut .lacks)) (others-bit w has))
+
+  -- a slot without others is fixed to v
+  pub others-none : {cells trail : List ℕ} {n k top : ℕ} → World M cells trail n k top → slot < n → rest ≡ 0 → FixCut slot v M
+  others-none world slot<n none =
+      let m = getD M slot 0 in
+      let empty : clearBit m v ≡ 0 = sym (others .is) ∙ none in
+      record {
+        fixed =
+            fixed-within m v (world .alive .each slot (omega (arith, world .slots)))
+            (λ x.
+            dite (ℕ-discrete x v) (λ same. rw same (omega (arith, testBit-fixed-same v, testBit-lt m v)))
+            (λ other.
+            rw (sym (testBit-clearBit-other m v x other)) (omega (arith, ap (λ (y : ℕ). testBit y x) empty, testBit-empty x))));
+      }
 
 pub fix-strikes : {slot v w : ℕ} {N : List ℕ} → (w ≡ v → ⊥) → FixCut slot v N → StrikeCut slot w N
 fix-strikes {slot} {v} {w} w≢v cut = record { lacks = rw (cut .fixed) (testBit-fixed-other v w w≢v) }

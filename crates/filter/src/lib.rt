@@ -33,7 +33,7 @@ struct Descent {
     note: usize,
 }
 
-// Cuts the slot to value v, with all that follows.
+// Cuts the slot to value v, with all that follows: strikes each other value that it has. Where it lacks v, its last value is a contradiction.
 pub fn fix(
     masks: &mut [u32],
     cells: &mut [u16],
@@ -49,10 +49,9 @@ pub fn fix(
         (now (masks .entry)) (now (cells .entry)) (now (trail .entry)) top (now (masks .exit)) (now (cells .exit)) (now (trail .exit)) r ⌝ }
 {
     let mut h = top;
-    for w in 0..k {
-        if w == v {
-            continue;
-        }
+    let mut rest = without_value(masks, slot, v);
+    while rest != 0 {
+        let w = domains::lowest(rest);
         let o = strike(masks, cells, trail, n, k, h, slot, w);
         match o {
             Outcome::Live(x) => {
@@ -62,6 +61,7 @@ pub fn fix(
                 return Outcome::Dead(x);
             }
         }
+        rest = without_value(masks, slot, v);
     }
     Outcome::Live(h)
 }

@@ -1,6 +1,6 @@
 -- The proof of the cycle of calls of `fix`, `follow`, `prune`, `settle_slot` and `strike`. The measure is five times the values that are left,
 -- plus 1 for `fix`, 2 for `settle_slot`, 3 for `prune` and 4 for `follow`. The invariant of each loop is `Filtered` for what was passed: the
--- values that are gone from the slot, the slots before which all is settled; each turn is `filtered-more`. `strike` is `strike-followed`, and
+-- values that are yet to be struck, the slots before which all is settled; each turn is `filtered-more`. `strike` is `strike-followed`, and
 -- `follow` is `follow-both` where both its prunes run. Assumes nothing.
 use mathlib.Core.Path.{sym, _∙_}
 use mathlib.Core.Bool.{Bool, true, false}
@@ -9,6 +9,7 @@ use Prim.Native.Nat.{_+_, _-_, _*_, _≤_}
 use native.Mathlib.Omega.{arith}
 use borrow.Author.Needs.{needs}
 use borrow.Author.Tests.{eqb-true, eqb-false, not-true, not-false}
+use lib.Count.{ones}
 use Rattle.domains.specs.Masks.{total}
 use Rattle.settling_model.specs.Settled.{Settled}
 use Rattle.settling_model.proofs.SettledLaws.{settled-none}
@@ -18,7 +19,7 @@ use Rattle.filter_model.proofs.StateLaws.{world-moved, ready-room}
 use Rattle.filter.specs.Filtered.{Filtered}
 use Rattle.filter.specs.declared.Outcome.the-variants.{Live}
 use Rattle.filter.proofs.FilteredLaws.{filtered-at, filtered-refl, filtered-more, filtered-goal, filtered-kind}
-use Rattle.filter.proofs.LoopLaws.{Gone, gone-none, gone-skip, gone-more, gone-fixed, fix-strikes, total-less}
+use Rattle.filter.proofs.LoopLaws.{Others, others-not, others-value, others-less, others-none, fix-strikes, total-less}
 use Rattle.filter.proofs.LoopLaws.{free-no, free-yes, free-concerned, settled-next, settled-cut}
 use Rattle.filter.proofs.StrikeLaws.{answer-contradicted, answer-removed, strike-absent, strike-contradicted, strike-followed}
 use Rattle.filter.proofs.StrikeLaws.{follow-none, follow-high, follow-low, follow-dead, follow-both}
@@ -43,13 +44,14 @@ use Rattle.filter.proofs.+fix+follow+prune+settle_slot+strike.Lts-strik
 use Rattle.filter.proofs.has_value.Reads as has-value-reads
 use Rattle.filter.proofs.is_free.Reads as is-free-reads
 use Rattle.filter.proofs.strike_one.Reads as strike-one-reads
+use Rattle.filter.proofs.without_value.Reads as without-value-reads
+use Rattle.domains.proofs.lowest.Reads as lowest-reads
 use Rattle.filter.proofs.+fix+follow+prune+settle_slot+strike.{statement}
 use Rattle.filter.proofs.+fix+follow+prune+settle_slot+strike.Tie.{close}
 
--- the values below w but v are gone
-record FixInv (n k slot v : ℕ) (masks₀ cells₀ trail₀ : List ℕ) (h₀ : ℕ) (masks cells trail : List ℕ) (h w : ℕ) : Type 0 where
-  done : Filtered n k (FixCut slot v) (Gone slot v w) masks₀ cells₀ trail₀ h₀ masks cells trail (Live h)
-  within : w ≤ k
+-- rest is what the slot has but v
+record FixInv (n k slot v : ℕ) (masks₀ cells₀ trail₀ : List ℕ) (h₀ : ℕ) (masks cells trail : List ℕ) (h rest : ℕ) : Type 0 where
+  done : Filtered n k (FixCut slot v) (Others slot v rest) masks₀ cells₀ trail₀ h₀ masks cells trail (Live h)
 
 -- all before s is settled
 record PruneInv (lower : Bool) (n k v end : ℕ) (masks₀ cells₀ trail₀ : List ℕ) (h₀ : ℕ) (masks cells trail : List ℕ) (h s : ℕ) : Type 0 where
@@ -110,7 +112,7 @@ abbrev settle-slot-calls : ℕ → settle-slot-lts.Claims
 settle-slot-calls t = (fix-below t, fix.Post, strike-below t, strike.Post)
 
 abbrev fix-calls : ℕ → fix-lts.Claims
-fix-calls t = (strike-below t, strike.Post)
+fix-calls t = (without-value-reads.Asked, without-value-reads.Learnt, lowest-reads.Asked, lowest-reads.Learnt, strike-below t, strike.Post)
 
 abbrev strike-calls : ℕ → strike-lts.Claims
 strike-calls t = (has-value-reads.Asked, has-value-reads.Learnt, strike-one-reads.Asked, strike-one-reads.Learnt, follow-below t, follow.Post)
@@ -119,35 +121,34 @@ abbrev follow-calls : ℕ → follow-lts.Claims
 follow-calls t = (prune-below t, prune.Post)
 
 abbrev fix-Inv-loop : fix-lts.InvT-loop
-fix-Inv-loop masks₀ cells₀ trail₀ n k top slot v h₀ w₀ masks cells trail h w = FixInv n k slot v masks₀ cells₀ trail₀ h₀ masks cells trail h w
+fix-Inv-loop masks₀ cells₀ trail₀ n k top slot v h₀ rest₀ masks cells trail h rest =
+    FixInv n k slot v masks₀ cells₀ trail₀ h₀ masks cells trail h rest
 
 abbrev fix-μ-loop : fix-lts.MeasureT-loop
-fix-μ-loop masks₀ cells₀ trail₀ n k top slot v h₀ w₀ masks cells trail h w = k - w
+fix-μ-loop masks₀ cells₀ trail₀ n k top slot v h₀ rest₀ masks cells trail h rest = ones rest
+
+fix-without-value-requires : (t : ℕ) → fix-lts.Need-without-value-requires (fix-calls t) (fix-at t) fix.Post fix-Inv-loop fix-μ-loop
+fix-without-value-requires t c κs =
+    let ready = c .before .before .before .before .pre .1 in
+    (omega (arith, ready .slot-in, ready .world .slots), omega (arith, ready .value-in, ready .world .values-fit))
 
 fix-loop-holds : (t : ℕ) → fix-lts.Need-loop-holds (fix-calls t) (fix-at t) fix.Post fix-Inv-loop fix-μ-loop
-fix-loop-holds t c = record { done = filtered-refl _ _ _ _ (gone-none _ _ _); within = omega arith }
+fix-loop-holds t c =
+    record { done = filtered-refl _ _ _ _ (record { is = c .without-value .ensures }) }
 
-fix-add-w : (t : ℕ) → fix-lts.Need-add-w (fix-calls t) (fix-at t) fix.Post fix-Inv-loop fix-μ-loop
-fix-add-w t c = omega arith
-
-fix-loop-less : (t : ℕ) → fix-lts.Need-loop-less (fix-calls t) (fix-at t) fix.Post fix-Inv-loop fix-μ-loop
-fix-loop-less t c = omega arith
-
-fix-loop-again : (t : ℕ) → fix-lts.Need-loop-again (fix-calls t) (fix-at t) fix.Post fix-Inv-loop fix-μ-loop
-fix-loop-again t c =
-    record {
-      done = filtered-goal (c .before .before .loop .inv .done) (λ live gone. gone-skip (c .if1 .taken) gone);
-      within = omega (arith, c .before .loop-test .taken);
-    }
+fix-lowest-requires : (t : ℕ) → fix-lts.Need-lowest-requires (fix-calls t) (fix-at t) fix.Post fix-Inv-loop fix-μ-loop
+fix-lowest-requires t c κs =
+    omega (arith, c .loop-test .taken)
 
 fix-strike-requires : (t : ℕ) → fix-lts.Need-strike-requires (fix-calls t) (fix-at t) fix.Post fix-Inv-loop fix-μ-loop
 fix-strike-requires t c κs =
-    let loop-test = c .before .before .before .before .loop-test in
+    let lowest = c .before .before .before .lowest in
     let loop = c .before .before .before .before .before .loop in
-    let pre = c .before .before .before .before .before .before .before .before .before .pre in
-    let done = loop .inv .done in (
+    let pre = c .before .before .before .before .before .before .before .before .before .before .before .pre in
+    let done = loop .inv .done in
+    let world = world-moved (pre .1 .world) (done .moved) in (
       omega (arith, total-less (done .moved .within), pre .0),
-      record { world = world-moved (pre .1 .world) (done .moved); slot-in = pre .1 .slot-in; value-in = loop-test .taken },
+      record { world = world; slot-in = pre .1 .slot-in; value-in = others-value (done .goal tt) world (lowest .ensures .1 .has) },
     )
 
 fix-enum-known-o : (t : ℕ) → fix-lts.Need-enum-known-o (fix-calls t) (fix-at t) fix.Post fix-Inv-loop fix-μ-loop
@@ -159,37 +160,49 @@ fix-enum-known-o-2 t c = search needs
 fix-returns : (t : ℕ) → fix-lts.Need-returns (fix-calls t) (fix-at t) fix.Post fix-Inv-loop fix-μ-loop
 fix-returns t c =
     let strike = c .before .before .before .before .before .before .before .before .before .strike in
-    let if1 = c .before .before .before .before .before .before .before .before .before .before .before .before .before .if1 in
-    let loop = c .before .before .before .before .before .before .before .before .before .before .before .before .before .before .before .loop in
-    filtered-more (loop .inv .done) (filtered-at (c .before .o2 .given .1) (strike .ensures)) (λ N cut. fix-strikes (if1 .left) cut) (λ no. absurd no)
+    let lowest = c .before .before .before .before .before .before .before .before .before .before .before .before .before .lowest in
+    let done = c .before .before .before .before .before .before .before .before .before .before .before .before .before .before .before .loop .inv
+    .done in
+    filtered-more done (filtered-at (c .before .o2 .given .1) (strike .ensures))
+    (λ N cut. fix-strikes (others-not (done .goal tt) (lowest .result) (lowest .ensures .1 .has)) cut) (λ no. absurd no)
 
-fix-add-w-2 : (t : ℕ) → fix-lts.Need-add-w-2 (fix-calls t) (fix-at t) fix.Post fix-Inv-loop fix-μ-loop
-fix-add-w-2 t c =
-    let loop-test = c .before .before .before .before .before .before .before .before .before .before .before .before .before .before .loop-test in
-    let fits = c .before .before .before .before .before .before .before .before .before .before .before .before .before .before .before .before
-    .before .before .before .fits in
-    omega (arith, loop-test .taken, fits .k)
+fix-without-value-requires-2 : (t : ℕ) → fix-lts.Need-without-value-requires-2 (fix-calls t) (fix-at t) fix.Post fix-Inv-loop fix-μ-loop
+fix-without-value-requires-2 t c κs =
+    let strike = c .before .before .before .before .before .before .before .before .before .before .strike in
+    let loop = c .before .before .before .before .before .before .before .before .before .before .before .before .before .before .before .before
+    .loop in
+    let ready = c .before .before .before .before .before .before .before .before .before .before .before .before .before .before .before .before
+    .before .before .before .before .before .before .pre .1 in (
+      omega (arith, strike .ensures .moved .within .len, loop .inv .done .moved .within .len, ready .slot-in, ready .world .slots),
+      omega (arith, ready .value-in, ready .world .values-fit),
+    )
 
-fix-loop-less-2 : (t : ℕ) → fix-lts.Need-loop-less-2 (fix-calls t) (fix-at t) fix.Post fix-Inv-loop fix-μ-loop
-fix-loop-less-2 t c = omega arith
+fix-loop-less : (t : ℕ) → fix-lts.Need-loop-less (fix-calls t) (fix-at t) fix.Post fix-Inv-loop fix-μ-loop
+fix-loop-less t c =
+    let strike = c .before .before .before .before .before .before .before .before .before .before .before .strike in
+    let lowest = c .before .before .before .before .before .before .before .before .before .before .before .before .before .before .before .lowest in
+    let done = c .before .before .before .before .before .before .before .before .before .before .before .before .before .before .before .before
+    .before .loop .inv .done in
+    let struck = filtered-at (c .before .before .before .o .given .1) (strike .ensures) in
+    others-less (done .goal tt) (struck .moved .within) (record { is = c .without-value2 .ensures }) (lowest .ensures .1 .has) (struck .goal tt)
 
-fix-loop-again-2 : (t : ℕ) → fix-lts.Need-loop-again-2 (fix-calls t) (fix-at t) fix.Post fix-Inv-loop fix-μ-loop
-fix-loop-again-2 t c =
-    let strike = c .before .before .before .before .before .before .before .before .before .strike in
-    let if1 = c .before .before .before .before .before .before .before .before .before .before .before .before .before .if1 in
-    let loop-test = c .before .before .before .before .before .before .before .before .before .before .before .before .before .before .loop-test in
-    let loop = c .before .before .before .before .before .before .before .before .before .before .before .before .before .before .before .loop in
+fix-loop-again : (t : ℕ) → fix-lts.Need-loop-again (fix-calls t) (fix-at t) fix.Post fix-Inv-loop fix-μ-loop
+fix-loop-again t c =
+    let strike = c .before .before .before .before .before .before .before .before .before .before .before .strike in
+    let lowest = c .before .before .before .before .before .before .before .before .before .before .before .before .before .before .before .lowest in
+    let done = c .before .before .before .before .before .before .before .before .before .before .before .before .before .before .before .before
+    .before .loop .inv .done in
     record {
-      done = filtered-more (loop .inv .done) (filtered-at (c .before .o .given .1) (strike .ensures)) (λ N cut. fix-strikes (if1 .left) cut)
-          (λ live gone cut. gone-more (strike .ensures .moved .within) gone cut);
-      within = omega (arith, loop-test .taken);
+      done = filtered-more done (filtered-at (c .before .before .before .o .given .1) (strike .ensures))
+          (λ N cut. fix-strikes (others-not (done .goal tt) (lowest .result) (lowest .ensures .1 .has)) cut)
+          (λ live others cut. record { is = c .without-value2 .ensures });
     }
 
 fix-returns-2 : (t : ℕ) → fix-lts.Need-returns-2 (fix-calls t) (fix-at t) fix.Post fix-Inv-loop fix-μ-loop
 fix-returns-2 t c =
-    let pre = c .before .before .before .before .before .pre in
+    let pre = c .before .before .before .before .before .before .before .pre in
     let done = c .before .loop .inv .done in
-    filtered-goal done (λ live gone. gone-fixed (world-moved (pre .1 .world) (done .moved)) (pre .1 .slot-in) (c .loop-test .left) gone)
+    filtered-goal done (λ live others. others-none others (world-moved (pre .1 .world) (done .moved)) (pre .1 .slot-in) (c .loop-test .left))
 
 abbrev prune-Inv-loop : prune-lts.InvT-loop
 prune-Inv-loop masks₀ cells₀ trail₀ n k top v end lower h₀ s₀ masks cells trail h s =
@@ -374,7 +387,8 @@ strike-add-follow t c =
       ready-room (start .1) (eqb-true _ _ (sym (has-value .ensures) ∙ not-false _ (c .before .before .before .before .before .before
           .before .before .before .before .before .before .before .before .before .before .before .if1 .left))),
       c .before .before .before .before .before
-          .before .before .before .before .before .before .before .before .before .before .before .before .before .before .before .before .before .before
+          .before .before .before .before .before .before .before .before .before .before .before .before .before .before .before .before .before
+          .before
           .fits,
     )
 
@@ -580,10 +594,10 @@ follow-same-length-12 t c = follow-returns-4 t c .moved .trailed .size
 pub +fix+follow+prune+settle-slot+strike-spec : {M : Type 1} → statement M
 +fix+follow+prune+settle-slot+strike-spec =
     close μ-fix μ-follow μ-prune μ-settle-slot μ-strike
-    (λ t. fix-lts.spec (fix-calls t) (fix-at t) fix.Post fix-Inv-loop fix-μ-loop (fix-loop-holds t) (fix-add-w t) (fix-loop-less t)
-    (fix-loop-again t) (fix-strike-requires t) (fix-enum-known-o t) (fix-enum-known-o-2 t) (fix-same-length t) (fix-same-length-2 t)
-    (fix-same-length-3 t) (fix-returns t) (fix-add-w-2 t) (fix-loop-less-2 t) (fix-loop-again-2 t) (fix-same-length-4 t) (fix-same-length-5 t)
-    (fix-same-length-6 t) (fix-returns-2 t))
+    (λ t. fix-lts.spec (fix-calls t) (fix-at t) fix.Post fix-Inv-loop fix-μ-loop (fix-without-value-requires t) (fix-loop-holds t)
+    (fix-lowest-requires t) (fix-strike-requires t) (fix-enum-known-o t) (fix-enum-known-o-2 t) (fix-same-length t) (fix-same-length-2 t)
+    (fix-same-length-3 t) (fix-returns t) (fix-without-value-requires-2 t) (fix-loop-less t) (fix-loop-again t) (fix-same-length-4 t)
+    (fix-same-length-5 t) (fix-same-length-6 t) (fix-returns-2 t))
     (λ t. follow-lts.spec (follow-calls t) (follow-at t) follow.Post (follow-prune-requires t) (follow-same-length t) (follow-same-length-2 t)
     (follow-same-length-3 t) (follow-returns t) (follow-prune-requires-2 t) (follow-enum-known-p t) (follow-same-length-4 t) (follow-same-length-5 t)
     (follow-same-length-6 t) (follow-returns-2 t) (follow-prune-requires-3 t) (follow-same-length-7 t) (follow-same-length-8 t)
