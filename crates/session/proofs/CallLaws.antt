@@ -8,6 +8,7 @@ use native.Mathlib.Omega.{arith}
 use lib.Dec.{ltb}
 use lib.ListN.{length, getD, set, length-set}
 use Rattle.domains.specs.Counts.{bit}
+use Rattle.closing_model.specs.Table.{Table}
 use Rattle.filter_model.specs.Mirror.{cellsOf, row}
 use Rattle.filter_model.proofs.RowLaws.{row-inside}
 use Rattle.segments_model.specs.Cells.{standingIn}
@@ -36,28 +37,27 @@ act-mark : (R : Rules) (S : State)
 unfolding act
 act-mark R S = refl
 
-working-mark : {R : Rules} {saved : List (List ℕ)} {masks cells trail heights : List ℕ} {n k top : ℕ} (M : List ℕ) (marks : ℕ)
-    → M ≡ masks → length saved ≡ marks → marks < length heights → Working R saved masks cells trail heights n k top
-    → Working R (M ∷ saved) masks cells trail (set heights marks top) n k top
-working-mark {R} {saved} {masks} {cells} {trail} {heights} {n} {k} {top} M marks M-is marks-are free working =
+working-mark : {T : Table} {R : Rules} {saved : List (List ℕ)} {masks cells trail heights : List ℕ} {n k top : ℕ} (M : List ℕ) (marks : ℕ)
+    → M ≡ masks → length saved ≡ marks → marks < length heights → Working T R saved masks cells trail heights n k top
+    → Working T R (M ∷ saved) masks cells trail (set heights marks top) n k top
+working-mark {T} {R} {saved} {masks} {cells} {trail} {heights} {n} {k} {top} M marks M-is marks-are free working =
     rw (M-is, ← marks-are)
     (record {
-      table = working .table;
       rules = working .rules;
       mirror = working .mirror;
       base = working .base;
       pile =
-          pile-mark n k (working .table) trail heights masks cells top saved (omega (arith, marks-are, free)) (working .mirror) (working .base)
+          pile-mark n k T trail heights masks cells top saved (omega (arith, marks-are, free)) (working .mirror) (working .base)
           (working .pile);
     })
 
-mark-answered : {R : Rules} {S : State} {masks cells trail heights : List ℕ} {n k : ℕ} {session : Session}
-    → Represents R S masks cells trail heights n k session → Marking heights session → (i : ℕ)
-    → Answered R (act R S Calls.mark) (stand (standingOf (session .standing)) i Calls.mark (act R S Calls.mark .1)) masks cells trail
+mark-answered : {T : Table} {R : Rules} {S : State} {masks cells trail heights : List ℕ} {n k : ℕ} {session : Session}
+    → Represents T R S masks cells trail heights n k session → Marking heights session → (i : ℕ)
+    → Answered T R (act R S Calls.mark) (stand (standingOf (session .standing)) i Calls.mark (act R S Calls.mark .1)) masks cells trail
     (set heights (session .marks) (session .top)) n k
     (record { session = record { standing = Live; top = session .top; marks = session .marks + 1 }; first = 3; second = 0 })
 unfolding stand
-mark-answered {R} {S} {heights = heights} {n = n} {k = k} {session} represents marking i =
+mark-answered {T} {R} {S} {heights = heights} {n = n} {k = k} {session} represents marking i =
     let longer = length-set heights (session .marks) (session .top) in
     rw (act-mark R S, marking .live)
     (record {
@@ -87,7 +87,7 @@ mark-answered {R} {S} {heights = heights} {n = n} {k = k} {session} represents m
 pub mark-acts : {heights : List ℕ} {session : Session} → Marking heights session → (masks cells trail : List ℕ) (n k i : ℕ)
     → Acts n k i Calls.mark session masks cells trail heights masks cells trail (set heights (session .marks) (session .top))
     (record { session = record { standing = Live; top = session .top; marks = session .marks + 1 }; first = 3; second = 0 })
-mark-acts marking masks cells trail n k i = record { does = λ R S represents. mark-answered represents marking i }
+mark-acts marking masks cells trail n k i = record { does = λ T R S represents. mark-answered represents marking i }
 
 -- ---- back
 pub record Latest (saved : List (List ℕ)) : Type 0 where
@@ -104,14 +104,14 @@ act-back : (R : Rules) (S : State) (M : List ℕ) (rest : List (List ℕ)) → S
 unfolding act restored
 act-back R S M rest are = rw are refl
 
-module _ {R : Rules} {S : State} {masks cells trail heights : List ℕ} {n k : ℕ} {session : Session}
-    (represents : Represents R S masks cells trail heights n k session) (marked : 0 < session .marks) where
+module _ {T : Table} {R : Rules} {S : State} {masks cells trail heights : List ℕ} {n k : ℕ} {session : Session}
+    (represents : Represents T R S masks cells trail heights n k session) (marked : 0 < session .marks) where
   -- a session with an open mark opened live
-  marked-working : Working R (S .saved) masks cells trail heights n k (session .top)
+  marked-working : Working T R (S .saved) masks cells trail heights n k (session .top)
   marked-working = go (session .standing) (represents .stands)
     where
-      go : (standing : Standing) → StandsFor standing R (S .saved) masks cells trail heights n k (session .top)
-          → Working R (S .saved) masks cells trail heights n k (session .top)
+      go : (standing : Standing) → StandsFor standing T R (S .saved) masks cells trail heights n k (session .top)
+          → Working T R (S .saved) masks cells trail heights n k (session .top)
       go OpenedDead shut =
           let none : length (S .saved) ≡ 0 = ap length (shut .saved-none) in
           absurd (omega (arith, none, represents .marks-are, marked))
@@ -122,10 +122,9 @@ module _ {R : Rules} {S : State} {masks cells trail heights : List ℕ} {n k : �
   marked-latest = latest (S .saved) (omega (arith, represents .marks-are, marked))
 
   module _ (from : ℕ) (from-is : from ≡ getD heights (session .marks - 1) 0) where
-    marked-entry : (c′ : List ℕ) × Entry n k (marked-working .table) trail masks cells (session .top) (marked-latest .first) c′ from
-        × Pile n k (marked-working .table) trail heights (marked-latest .first) c′ from (marked-latest .rest)
+    marked-entry : (c′ : List ℕ) × Entry n k T trail masks cells (session .top) (marked-latest .first) c′ from
+        × Pile n k T trail heights (marked-latest .first) c′ from (marked-latest .rest)
     marked-entry =
-        let T = marked-working .table in
         let rest = marked-latest .rest in
         let pile : Pile n k T trail heights masks cells (session .top) (marked-latest .first ∷ rest) = subst
         (λ (saved : List (List ℕ)). Pile n k T trail heights masks cells (session .top) saved) (marked-latest .are) (marked-working .pile) in
@@ -152,18 +151,17 @@ module _ {R : Rules} {S : State} {masks cells trail heights : List ℕ} {n k : �
       were : (masks′ ≡ marked-latest .first) × (cells′ ≡ marked-entry .0)
       were = undone .restored (marked-latest .first) (marked-entry .0) (marked-entry .1 .back)
 
-      back-working : Working R (marked-latest .rest) masks′ cells′ trail heights n k from
+      back-working : Working T R (marked-latest .rest) masks′ cells′ trail heights n k from
       back-working =
           rw (were .0, were .1)
           (record {
-            table = marked-working .table;
             rules = marked-working .rules;
             mirror = marked-entry .1 .mirror;
             base = marked-entry .1 .base;
             pile = marked-entry .2;
           })
 
-      back-answered : Answered R (act R S Calls.back) (stand (standingOf (session .standing)) i Calls.back (act R S Calls.back .1)) masks′ cells′ trail
+      back-answered : Answered T R (act R S Calls.back) (stand (standingOf (session .standing)) i Calls.back (act R S Calls.back .1)) masks′ cells′ trail
           heights n k (record { session = record { standing = Live; top = from; marks = session .marks - 1 }; first = 3; second = 0 })
       unfolding stand
       back-answered =
@@ -201,7 +199,7 @@ module _ {masks cells trail heights : List ℕ} {n k : ℕ} {session : Session} 
   pub back-acts : {masks′ cells′ : List ℕ} → Undone masks cells trail n k from (session .top) masks′ cells′ → (i : ℕ)
       → Acts n k i Calls.back session masks cells trail heights masks′ cells′ trail heights
       (record { session = record { standing = Live; top = from; marks = session .marks - 1 }; first = 3; second = 0 })
-  back-acts undone i = record { does = λ R S represents. back-answered represents (backing .marked) from from-is undone i }
+  back-acts undone i = record { does = λ T R S represents. back-answered represents (backing .marked) from from-is undone i }
 
 -- ---- the calls that only read
 act-show : (R : Rules) (S : State) (slot : ℕ) → act R S (Calls.show slot) ≡ (S, Machine.value (getD (S .masks) slot 0))
@@ -212,9 +210,9 @@ act-walls : (R : Rules) (S : State) (kind : Bool) (v : ℕ) → act R S (Calls.w
 unfolding act
 act-walls R S kind v = refl
 
-read-answered : {R : Rules} {S : State} {masks cells trail heights : List ℕ} {n k : ℕ} {session : Session} (i : ℕ) (c : Calls.Call) (x y : ℕ)
-    → Represents R S masks cells trail heights n k session → act R S c ≡ (S, Machine.value x) → y ≡ x
-    → Answered R (act R S c) (stand (standingOf (session .standing)) i c (act R S c .1)) masks cells trail heights n k
+read-answered : {T : Table} {R : Rules} {S : State} {masks cells trail heights : List ℕ} {n k : ℕ} {session : Session} (i : ℕ) (c : Calls.Call) (x y : ℕ)
+    → Represents T R S masks cells trail heights n k session → act R S c ≡ (S, Machine.value x) → y ≡ x
+    → Answered T R (act R S c) (stand (standingOf (session .standing)) i c (act R S c .1)) masks cells trail heights n k
     (record { session = session; first = 2; second = y })
 unfolding stand
 read-answered i c x y represents acts same =
@@ -225,7 +223,7 @@ pub show-acts : (masks : List ℕ) (session : Session) (slot : ℕ) (cells trail
     (record { session = session; first = 2; second = getD masks slot 0 })
 show-acts masks session slot cells trail heights n k i =
     record {
-      does = λ R S represents.
+      does = λ T R S represents.
           read-answered i (Calls.show slot) (getD (S .masks) slot 0) (getD masks slot 0) represents (act-show R S slot)
           (ap (λ (M : List ℕ). getD M slot 0) (sym (represents .masks-are)));
     }
@@ -236,23 +234,23 @@ is-shut OpenedDead shut = refl
 is-shut Live shut = absurd (true≢false (sym shut))
 is-shut (Dead call) shut = absurd (true≢false (sym shut))
 
-opened-working : {R : Rules} {S : State} {masks cells trail heights : List ℕ} {n k : ℕ} {session : Session}
-    → Represents R S masks cells trail heights n k session → isShut (session .standing) ≡ false
-    → Working R (S .saved) masks cells trail heights n k (session .top)
-opened-working {R} {S} {masks} {cells} {trail} {heights} {n} {k} {session} represents = go (session .standing) (represents .stands)
+pub opened-working : {T : Table} {R : Rules} {S : State} {masks cells trail heights : List ℕ} {n k : ℕ} {session : Session}
+    → Represents T R S masks cells trail heights n k session → isShut (session .standing) ≡ false
+    → Working T R (S .saved) masks cells trail heights n k (session .top)
+opened-working {T} {R} {S} {masks} {cells} {trail} {heights} {n} {k} {session} represents = go (session .standing) (represents .stands)
   where
-    go : (standing : Standing) → StandsFor standing R (S .saved) masks cells trail heights n k (session .top) → isShut standing ≡ false
-        → Working R (S .saved) masks cells trail heights n k (session .top)
+    go : (standing : Standing) → StandsFor standing T R (S .saved) masks cells trail heights n k (session .top) → isShut standing ≡ false
+        → Working T R (S .saved) masks cells trail heights n k (session .top)
     go OpenedDead shut is = absurd (true≢false is)
     go Live working is = working
     go (Dead call) working is = working
 
 -- the cells of a row count as many as the formula
-walls-words : {n k : ℕ} {R : Rules} {saved : List (List ℕ)} {masks cells trail heights : List ℕ} {top : ℕ} (kind : Bool) (v : ℕ) → v < k
-    → Working R saved masks cells trail heights n k top → standingIn (gaps (cellsOf kind n k v cells)) n ≡ R .standing kind masks v
-walls-words {n} {k} {R} {masks = masks} {cells = cells} true v v<k working =
+walls-words : {n k : ℕ} {T : Table} {R : Rules} {saved : List (List ℕ)} {masks cells trail heights : List ℕ} {top : ℕ} (kind : Bool) (v : ℕ) → v < k
+    → Working T R saved masks cells trail heights n k top → standingIn (gaps (cellsOf kind n k v cells)) n ≡ R .standing kind masks v
+walls-words {n} {k} {T} {R} {masks = masks} {cells = cells} true v v<k working =
     standing-words n _ _ (cellsOf true n k v cells) (working .mirror .rows true v v<k .held) ∙ sym (working .rules .standing true masks v)
-walls-words {n} {k} {R} {masks = masks} {cells = cells} false v v<k working =
+walls-words {n} {k} {T} {R} {masks = masks} {cells = cells} false v v<k working =
     standing-words n _ _ (cellsOf false n k v cells) (working .mirror .rows false v v<k .held) ∙ sym (working .rules .standing false masks v)
 
 row-below : {k v : ℕ} (kind : Bool) → v < k → row kind k v < k + k
@@ -270,8 +268,8 @@ module _ {cells : List ℕ} {n k v : ℕ} {session : Session} (lower : Bool) whe
       (record { session = session; first = 2; second = 0 })
   walls-shut shut masks trail heights i =
       record {
-        does = λ R S represents.
-            let none = subst (λ (standing : Standing). StandsFor standing R (S .saved) masks cells trail heights n k (session .top)) (is-shut (session .standing) shut)
+        does = λ T R S represents.
+            let none = subst (λ (standing : Standing). StandsFor standing T R (S .saved) masks cells trail heights n k (session .top)) (is-shut (session .standing) shut)
             (represents .stands) in
             read-answered i (Calls.walls lower v) (R .standing lower (S .masks) v) 0 represents (act-walls R S lower v)
             (sym (none .standing lower (S .masks) v));
@@ -284,7 +282,7 @@ module _ {cells : List ℕ} {n k v : ℕ} {session : Session} (lower : Bool) whe
       (record { session = session; first = 2; second = x })
   walls-stand opened v<k x start start-is x-is masks trail heights i =
       record {
-        does = λ R S represents.
+        does = λ T R S represents.
             let working = opened-working represents opened in
             read-answered i (Calls.walls lower v) (R .standing lower (S .masks) v) x represents (act-walls R S lower v)
             (rw start-is at x-is ∙ walls-words lower v v<k working ∙ ap (λ (M : List ℕ). R .standing lower M v) (sym (represents .masks-are)));

@@ -7,6 +7,7 @@ use mathlib.Core.Option.{none, some}
 use Prim.Native.Nat.{ℕ, _-_, _<_}
 use native.Mathlib.Omega.{arith}
 use lib.ListN.{length}
+use Rattle.closing_model.specs.Table.{Table}
 use Rattle.filter_model.specs.State.{Ready}
 use Rattle.filter.specs.Filtered.{Filtered}
 use Rattle.filter.specs.declared.Outcome.the-variants as Outcomes
@@ -38,12 +39,12 @@ unfolding act decided
 act-dead R S d fails = rw fails refl
 
 -- ---- the answers of a session that is live
-module _ {R : Rules} {S : State} {masks cells trail heights : List ℕ} {n k : ℕ} {session : Session}
-    (represents : Represents R S masks cells trail heights n k session) (live : session .standing ≡ Live) (i : ℕ) (d : Decision) where
+module _ {T : Table} {R : Rules} {S : State} {masks cells trail heights : List ℕ} {n k : ℕ} {session : Session}
+    (represents : Represents T R S masks cells trail heights n k session) (live : session .standing ≡ Live) (i : ℕ) (d : Decision) where
   live-answered : {Q : List ℕ → Type 0} {masks′ cells′ trail′ : List ℕ} {h : ℕ} (x : ℕ)
       → Filtered n k Q Q masks cells trail (session .top) masks′ cells′ trail′ (Outcomes.Live h)
       → R .settle (cut d (S .masks)) ≡ some masks′ → x ≡ R .ones (S .masks) - R .ones masks′
-      → Answered R (act R S (Calls.decide d)) (stand (standingOf (session .standing)) i (Calls.decide d) (act R S (Calls.decide d) .1))
+      → Answered T R (act R S (Calls.decide d)) (stand (standingOf (session .standing)) i (Calls.decide d) (act R S (Calls.decide d) .1))
       masks′ cells′ trail′ heights n k (record { session = record { standing = Live; top = h; marks = session .marks }; first = 0; second = x })
   unfolding stand
   live-answered {masks′ = masks′} x done settles struck =
@@ -68,7 +69,7 @@ module _ {R : Rules} {S : State} {masks cells trail heights : List ℕ} {n k : �
   dead-answered : {Q : List ℕ → Type 0} {masks′ cells′ trail′ masks″ cells″ : List ℕ} {h : ℕ}
       → Filtered n k Q Q masks cells trail (session .top) masks′ cells′ trail′ (Outcomes.Dead h)
       → Undone masks′ cells′ trail′ n k (session .top) h masks″ cells″ → R .settle (cut d (S .masks)) ≡ none
-      → Answered R (act R S (Calls.decide d)) (stand (standingOf (session .standing)) i (Calls.decide d) (act R S (Calls.decide d) .1))
+      → Answered T R (act R S (Calls.decide d)) (stand (standingOf (session .standing)) i (Calls.decide d) (act R S (Calls.decide d) .1))
       masks″ cells″ trail′ heights n k
       (record { session = record { standing = Dead i; top = session .top; marks = session .marks }; first = 1; second = 0 })
   unfolding stand
@@ -125,7 +126,7 @@ module _ {masks cells trail heights : List ℕ} {n k : ℕ} {session : Session} 
         (record { session = record { standing = Live; top = h; marks = session .marks }; first = 0; second = count })
     decide-live {count} done count-is =
         record {
-          does = λ R S represents.
+          does = λ T R S represents.
               let d = decisionOf assign slot v in
               let working = live-working represents (deciding .live) in
               let inside : slot < length masks = omega (arith, deciding .slot-in, represents .room .masks-in) in
@@ -144,7 +145,7 @@ module _ {masks cells trail heights : List ℕ} {n k : ℕ} {session : Session} 
         (record { session = record { standing = Dead i; top = session .top; marks = session .marks }; first = 1; second = 0 })
     decide-dead done undone =
         record {
-          does = λ R S represents.
+          does = λ T R S represents.
               let d = decisionOf assign slot v in
               let working = live-working represents (deciding .live) in
               let inside : slot < length masks = omega (arith, deciding .slot-in, represents .room .masks-in) in

@@ -7,6 +7,7 @@ use native.Mathlib.Omega.{arith}
 use lib.ListN.{length, getD, set, drop, length-append}
 use lib.Seq.{set-at, drop-cons}
 use Rattle.book.specs.Layout.{listOf}
+use Rattle.closing_model.specs.Table.{Table}
 use Rattle.closing.specs.Close.{overlay}
 use Rattle.session_model.specs.Calls.{Call, callAt, callsTo}
 use Rattle.session_model.specs.Machine.{runs, step}
@@ -54,16 +55,16 @@ overlay-more ws l i x y ws-length inside =
     ap (λ (t : List ℕ). set t (2 * i + 1) y) (one ∙ seam) ∙ two ∙ ends ∙ ap (λ (j : ℕ). (ws ++ (x ∷ y ∷ [])) ++ drop j l) (sym longer)
 
 -- ---- one call more, from the machine's state out .0 and its replies out .1
-ran-more : {R : Rules} {answers : List ℕ} {n k : ℕ} {session₁ : Session} {m₁ c₁ t₁ h₁ a₁ m₂ c₂ t₂ h₂ a₂ : List ℕ} {r : Stepped} (i : ℕ)
+ran-more : {T : Table} {R : Rules} {answers : List ℕ} {n k : ℕ} {session₁ : Session} {m₁ c₁ t₁ h₁ a₁ m₂ c₂ t₂ h₂ a₂ : List ℕ} {r : Stepped} (i : ℕ)
     (c : Call) (out : State × List Reply) (calls : List Call) (St : Model.Standing) → length calls ≡ i → length (out .1) ≡ length calls
     → 2 * i + 1 < length answers
-    → RanTo R out (standFrom St 0 calls (out .1)) m₁ c₁ t₁ h₁ n k session₁ answers a₁
-    → Answered R (step R (out .0) c) (stand (standingOf (session₁ .standing)) i c (step R (out .0) c .1)) m₂ c₂ t₂ h₂ n k r
+    → RanTo T R out (standFrom St 0 calls (out .1)) m₁ c₁ t₁ h₁ n k session₁ answers a₁
+    → Answered T R (step R (out .0) c) (stand (standingOf (session₁ .standing)) i c (step R (out .0) c .1)) m₂ c₂ t₂ h₂ n k r
     → a₂ ≡ set (set a₁ (2 * i) (r .first)) (2 * i + 1) (r .second)
-    → RanTo R (step R (out .0) c .0, out .1 ++ (step R (out .0) c .1 ∷ []))
+    → RanTo T R (step R (out .0) c .0, out .1 ++ (step R (out .0) c .1 ∷ []))
     (standFrom St 0 (calls ++ (c ∷ [])) (out .1 ++ (step R (out .0) c .1 ∷ []))) m₂ c₂ t₂ h₂ n k (r .session) answers a₂
 unfolding wordsOf
-ran-more {R} {answers = answers} {r = r} i c out calls St calls-length same inside before answered written =
+ran-more {T} {R} {answers = answers} {r = r} i c out calls St calls-length same inside before answered written =
     let reply = step R (out .0) c .1 in
     let long : length (wordsOf (out .1)) ≡ 2 * i = length-wordsOf (out .1) ∙ omega (arith, same, calls-length) in
     let said : wordsOf (out .1) ++ (r .first ∷ r .second ∷ []) ≡ wordsOf (out .1 ++ (reply ∷ [])) = rw (answered .first, answered .second)
@@ -93,16 +94,17 @@ pub record Lengths (m₀ c₀ t₀ h₀ a₀ m c t h a : List ℕ) : Type 0 wher
 module _ {n k : ℕ} {session : Session} {masks cells trail heights answers : List ℕ} where
   pub runs-start : (bytes : List ℕ) → Runs n k (callsTo bytes 0) session masks cells trail heights answers session masks cells trail heights answers
   unfolding runs listOf standFrom wordsOf
-  runs-start bytes = record { does = λ R S represents. record { represents = represents; words = refl; standing = refl } }
+  runs-start bytes = record { does = λ T R S represents. record { represents = represents; words = refl; standing = refl } }
 
   pub runs-running : {calls : List Call} {session′ : Session} {masks′ cells′ trail′ heights′ answers′ : List ℕ}
       → Runs n k calls session masks cells trail heights answers session′ masks′ cells′ trail′ heights′ answers′
       → Running masks cells trail heights n k session → Running masks′ cells′ trail′ heights′ n k session′
   runs-running {calls} so-far running =
       record {
+        table = running .table;
         rules = running .rules;
         state = runs (running .rules) (running .state) calls .0;
-        represents = so-far .does (running .rules) (running .state) (running .represents) .represents;
+        represents = so-far .does (running .table) (running .rules) (running .state) (running .represents) .represents;
       }
 
   module _ (bytes : List ℕ) (i : ℕ) {c : Call} {session₁ : Session} {m₁ c₁ t₁ h₁ a₁ m₂ c₂ t₂ h₂ a₂ : List ℕ} {r : Stepped} (c-is : c ≡ callAt bytes i) where
@@ -112,10 +114,10 @@ module _ {n k : ℕ} {session : Session} {masks cells trail heights answers : Li
         → Runs n k (callsTo bytes (i + 1)) session masks cells trail heights answers (r .session) m₂ c₂ t₂ h₂ a₂
     runs-more inside so-far stepped written =
         record {
-          does = λ R S represents.
-              let before = so-far .does R S represents in
+          does = λ T R S represents.
+              let before = so-far .does T R S represents in
               let calls = callsTo bytes i in
               rw (callsTo-next bytes i, ← c-is, runs-snoc R S calls c)
               (ran-more i c (runs R S calls) calls (standingOf (session .standing)) (length-callsTo bytes i) (length-replies R S calls) inside before
-              (stepped .does R (runs R S calls .0) (before .represents)) written);
+              (stepped .does T R (runs R S calls .0) (before .represents)) written);
         }

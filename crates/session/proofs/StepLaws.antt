@@ -8,6 +8,7 @@ use Prim.Native.Nat.{ℕ, _+_, _<_}
 use native.Mathlib.Omega.{arith}
 use borrow.Author.Tests.{leb-false, eqb-false}
 use lib.ListN.{length}
+use Rattle.closing_model.specs.Table.{Table}
 use Rattle.session_model.specs.Calls as Calls
 use Rattle.session_model.specs.Calls.{Call, callOf}
 use Rattle.session_model.specs.Decisions.{assign}
@@ -82,7 +83,7 @@ module _ {masks cells trail heights : List ℕ} {n k : ℕ} {session : Session} 
   none-applies {c} {d} is performing =
       let running = performing .running in
       subst (λ (e : Call). refusal (running .rules) (running .state) e ≡ none) is
-      (performing .accepted (running .rules) (running .state) (running .represents))
+      (performing .accepted (running .table) (running .rules) (running .state) (running .represents))
 
   live-now : (running : Running masks cells trail heights n k session) → running .state .dead ≡ false → session .standing ≡ Live
   live-now running is = not-dead (session .standing) (sym (running .represents .flag) ∙ is)
@@ -192,7 +193,7 @@ number-some (some r) x is not-0 = record { is = r; some-is = refl; number-is = s
 
 module _ {n k : ℕ} (i : ℕ) {c : Call} {session : Session} {masks cells trail heights : List ℕ} (marks x : ℕ) (dead : Bool)
     (marks-is : session .marks ≡ marks) (dead-is : dead ≡ isDead (session .standing)) (refuses : Refuses n k (length heights) marks dead c x) where
-  number-said : (R : Rules) (S : State) → Represents R S masks cells trail heights n k session → x ≡ refusalNumber (refusal R S c)
+  number-said : {T : Table} (R : Rules) (S : State) → Represents T R S masks cells trail heights n k session → x ≡ refusalNumber (refusal R S c)
   number-said R S represents =
       let suits = represents .suits in
       refuses .says R S (suits .slots) (suits .values) (suits .limit) (represents .flag ∙ sym dead-is) (represents .marks-are ∙ marks-is)
@@ -201,27 +202,27 @@ module _ {n k : ℕ} (i : ℕ) {c : Call} {session : Session} {masks cells trail
   steps-performing running is =
       record {
         running = running;
-        accepted = λ R S represents. number-none (refusal R S c) (sym (number-said R S represents) ∙ is);
+        accepted = λ T R S represents. number-none (refusal R S c) (sym (number-said R S represents) ∙ is);
       }
 
-  refused-answered : {R : Rules} {S : State} → Represents R S masks cells trail heights n k session → (x ≡ 0 → ⊥)
-      → Answered R (step R S c) (stand (standingOf (session .standing)) i c (step R S c .1)) masks cells trail heights n k
+  refused-answered : {T : Table} {R : Rules} {S : State} → Represents T R S masks cells trail heights n k session → (x ≡ 0 → ⊥)
+      → Answered T R (step R S c) (stand (standingOf (session .standing)) i c (step R S c .1)) masks cells trail heights n k
       (record { session = session; first = 256 + x; second = 0 })
   unfolding stand
-  refused-answered {R} {S} represents not-0 =
+  refused-answered {T} {R} {S} represents not-0 =
       let numbered = number-some (refusal R S c) x (number-said R S represents) not-0 in
       rw (step-refused R S c (numbered .is) (numbered .some-is))
       (record { represents = represents; first = ap (λ (y : ℕ). 256 + y) (sym (numbered .number-is)); second = refl; standing = refl })
 
   pub steps-refused : (x ≡ 0 → ⊥) → Steps n k i c session masks cells trail heights masks cells trail heights
       (record { session = session; first = 256 + x; second = 0 })
-  steps-refused not-0 = record { does = λ R S represents. refused-answered represents not-0 }
+  steps-refused not-0 = record { does = λ T R S represents. refused-answered represents not-0 }
 
   pub steps-done : {m′ ce′ t′ h′ : List ℕ} {r : Stepped} → x ≡ 0 → Acts n k i c session masks cells trail heights m′ ce′ t′ h′ r
       → Steps n k i c session masks cells trail heights m′ ce′ t′ h′ r
   steps-done {m′} {ce′} {t′} {h′} {r} is acts =
       record {
-        does = λ R S represents.
+        does = λ T R S represents.
             let none-is = number-none (refusal R S c) (sym (number-said R S represents) ∙ is) in
-            rw (step-acts R S c none-is) (acts .does R S represents);
+            rw (step-acts R S c none-is) (acts .does T R S represents);
       }

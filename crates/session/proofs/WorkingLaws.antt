@@ -6,6 +6,7 @@ use mathlib.Core.List.{List}
 use Prim.Native.Nat.{ℕ}
 use native.Mathlib.Omega.{arith}
 use lib.ListN.{length}
+use Rattle.closing_model.specs.Table.{Table}
 use Rattle.filter_model.specs.State.{World, Moved}
 use Rattle.filter_model.proofs.MirrorLaws.{progress-stable}
 use Rattle.filter_model.proofs.StateLaws.{world-moved}
@@ -20,8 +21,8 @@ use Rattle.session.specs.declared.Standing.{Standing}
 use Rattle.session.specs.declared.Standing.the-variants as Standings
 use Rattle.session.proofs.PileLaws.{base-entries, pile-moved, pile-trail}
 
-module _ {R : Rules} {saved : List (List ℕ)} {masks cells trail heights : List ℕ} {n k top : ℕ} (room : Room masks cells trail n k)
-    (working : Working R saved masks cells trail heights n k top) where
+module _ {T : Table} {R : Rules} {saved : List (List ℕ)} {masks cells trail heights : List ℕ} {n k top : ℕ} (room : Room masks cells trail n k)
+    (working : Working T R saved masks cells trail heights n k top) where
   pub working-world : World masks cells trail n k top
   working-world =
       record {
@@ -47,12 +48,10 @@ module _ {R : Rules} {saved : List (List ℕ)} {masks cells trail heights : List
 
   -- a decision that lives
   pub working-live : {Q : List ℕ → Type 0} {masks′ cells′ trail′ : List ℕ} {h : ℕ} → Filtered n k Q Q masks cells trail top masks′ cells′ trail′ (Live h)
-      → Working R saved masks′ cells′ trail′ heights n k h
+      → Working T R saved masks′ cells′ trail′ heights n k h
   working-live {masks′ = masks′} {cells′} {trail′} {h} done =
-      let T = working .table in
       let world = world-moved working-world (done .moved) in
       record {
-        table = T;
         rules = working .rules;
         mirror = done .mirror T (working .mirror);
         base =
@@ -82,13 +81,11 @@ module _ {R : Rules} {saved : List (List ℕ)} {masks cells trail heights : List
     cells-back = moved-undone (done .moved) undone .1
 
     -- .. and is as before
-    pub working-dead : Working R saved masks″ cells″ trail′ heights n k top
+    pub working-dead : Working T R saved masks″ cells″ trail′ heights n k top
     working-dead =
-        let T = working .table in
         let trailed = done .moved .trailed in
         rw (masks-back, cells-back)
         (record {
-          table = T;
           rules = working .rules;
           mirror = working .mirror;
           base = base-entries (trailed .size) (working .base);
@@ -107,8 +104,8 @@ module _ {R : Rules} {saved : List (List ℕ)} {masks cells trail heights : List
         })
 
 -- ---- Represents
-module _ {R : Rules} {S : State} {masks cells trail heights : List ℕ} {n k : ℕ} {session : Session}
-    (represents : Represents R S masks cells trail heights n k session) where
-  pub live-working : session .standing ≡ Standings.Live → Working R (S .saved) masks cells trail heights n k (session .top)
+module _ {T : Table} {R : Rules} {S : State} {masks cells trail heights : List ℕ} {n k : ℕ} {session : Session}
+    (represents : Represents T R S masks cells trail heights n k session) where
+  pub live-working : session .standing ≡ Standings.Live → Working T R (S .saved) masks cells trail heights n k (session .top)
   live-working live =
-      subst (λ (standing : Standing). StandsFor standing R (S .saved) masks cells trail heights n k (session .top)) live (represents .stands)
+      subst (λ (standing : Standing). StandsFor standing T R (S .saved) masks cells trail heights n k (session .top)) live (represents .stands)

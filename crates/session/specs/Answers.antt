@@ -1,6 +1,8 @@
 -- What a call does to the slices and the session, and its two words, by the plain machine.
---   Answered R out St ..   the machine's state out .0 is represented, the words are those of its reply out .1, and the standing is St
---   Acts ..                so it is for the call c, whatever state of whatever machine the slices stood for, where no number refuses c
+--   Answered T R out St ..   the machine's state out .0 is represented by the table T, the words are those of its reply out .1, and the standing
+--                          is St
+--   Acts ..                so it is for the call c, whatever state of whatever machine the slices stood for, by whatever table, where no number
+--                          refuses c
 --   Steps ..               the same for any call: refused, or done
 --   Deciding, Marking, Backing, Counting   what the calls need that no number refuses
 --   Strikes n trail from to   the trail has a strike at each height from `from` up to `to`
@@ -13,6 +15,7 @@ use mathlib.Core.Bool.{Bool}
 use mathlib.Core.Option.{none}
 use Prim.Native.Nat.{ℕ, _+_, _*_, _≤_, _<_}
 use lib.ListN.{length}
+use Rattle.closing_model.specs.Table.{Table}
 use Rattle.filter_model.specs.Trail.{valueAt}
 use Rattle.session_model.specs.Calls as Calls
 use Rattle.session_model.specs.Machine.{act, step}
@@ -25,22 +28,22 @@ use Rattle.session.specs.declared.Session.{Session}
 use Rattle.session.specs.declared.Standing.the-variants.{Live}
 use Rattle.session.specs.declared.Stepped.{Stepped}
 
-pub record Answered (R : Rules) (out : State × Reply) (St : Model.Standing) (masks cells trail heights : List ℕ) (n k : ℕ) (r : Stepped)
-    : Type 0 where
-  pub represents : Represents R (out .0) masks cells trail heights n k (r .session)
+pub record Answered (T : Table) (R : Rules) (out : State × Reply) (St : Model.Standing) (masks cells trail heights : List ℕ) (n k : ℕ)
+    (r : Stepped) : Type 0 where
+  pub represents : Represents T R (out .0) masks cells trail heights n k (r .session)
   pub first : r .first ≡ words (out .1) .0
   pub second : r .second ≡ words (out .1) .1
   pub standing : standingOf (r .session .standing) ≡ St
 
 pub record Acts (n k i : ℕ) (c : Calls.Call) (session : Session) (masks cells trail heights masks′ cells′ trail′ heights′ : List ℕ)
     (r : Stepped) : Type 0 where
-  pub does : (R : Rules) (S : State) → Represents R S masks cells trail heights n k session
-      → Answered R (act R S c) (Model.stand (standingOf (session .standing)) i c (act R S c .1)) masks′ cells′ trail′ heights′ n k r
+  pub does : (T : Table) (R : Rules) (S : State) → Represents T R S masks cells trail heights n k session
+      → Answered T R (act R S c) (Model.stand (standingOf (session .standing)) i c (act R S c .1)) masks′ cells′ trail′ heights′ n k r
 
 pub record Steps (n k i : ℕ) (c : Calls.Call) (session : Session) (masks cells trail heights masks′ cells′ trail′ heights′ : List ℕ)
     (r : Stepped) : Type 0 where
-  pub does : (R : Rules) (S : State) → Represents R S masks cells trail heights n k session
-      → Answered R (step R S c) (Model.stand (standingOf (session .standing)) i c (step R S c .1)) masks′ cells′ trail′ heights′ n k r
+  pub does : (T : Table) (R : Rules) (S : State) → Represents T R S masks cells trail heights n k session
+      → Answered T R (step R S c) (Model.stand (standingOf (session .standing)) i c (step R S c .1)) masks′ cells′ trail′ heights′ n k r
 
 pub record Deciding (masks cells trail heights : List ℕ) (n k : ℕ) (session : Session) (slot v : ℕ) : Type 0 where
   pub running : Running masks cells trail heights n k session
@@ -73,7 +76,7 @@ pub record Counting (cells : List ℕ) (n k v : ℕ) : Type 0 where
 -- ---- any call
 pub record Performing (masks cells trail heights : List ℕ) (n k : ℕ) (session : Session) (c : Calls.Call) : Type 0 where
   pub running : Running masks cells trail heights n k session
-  pub accepted : (R : Rules) (S : State) → Represents R S masks cells trail heights n k session → refusal R S c ≡ none
+  pub accepted : (T : Table) (R : Rules) (S : State) → Represents T R S masks cells trail heights n k session → refusal R S c ≡ none
 
 -- ---- refusals
 pub record Refuses (n k limit marks : ℕ) (dead : Bool) (c : Calls.Call) (r : ℕ) : Type 0 where

@@ -1,4 +1,4 @@
--- When the lent slices and a session stand for a state S of the plain machine with the rules R.
+-- When the lent slices and a session stand for a state S of the plain machine with the rules R, by the closed table T.
 --   Room          the slices have room for n slots and k values
 --   Suits         the rules' sizes are those of the slices
 --   Governs       the rules settle and count walls by the closed table T
@@ -8,7 +8,7 @@
 --   Working       a session that opened live: the cells mirror T and the masks, the masks are stable, and the saved lists are a Pile
 --   Shut          a session that opened dead: nothing is saved, and no wall stands
 --   Represents    the whole
---   Running       it stands for some state of some machine
+--   Running       it stands for some state of some machine, by some table
 -- Only Pile says what the heights are. Assumes nothing.
 use mathlib.Core.Path.{_≡_}
 use mathlib.Core.Bool.{Bool}
@@ -66,32 +66,32 @@ Pile n k T trail heights M cells h (M′ ∷ saved) =
     (cells′ : List ℕ) × Entry n k T trail M cells h M′ cells′ (getD heights (length saved) 0)
     × Pile n k T trail heights M′ cells′ (getD heights (length saved) 0) saved
 
-pub record Working (R : Rules) (saved : List (List ℕ)) (masks cells trail heights : List ℕ) (n k top : ℕ) : Type 0 where
-  pub table : Table
-  pub rules : Governs R n k table
-  pub mirror : Mirror n k table masks cells
-  pub base : Base n k table (length trail) masks top
-  pub pile : Pile n k table trail heights masks cells top saved
+pub record Working (T : Table) (R : Rules) (saved : List (List ℕ)) (masks cells trail heights : List ℕ) (n k top : ℕ) : Type 0 where
+  pub rules : Governs R n k T
+  pub mirror : Mirror n k T masks cells
+  pub base : Base n k T (length trail) masks top
+  pub pile : Pile n k T trail heights masks cells top saved
 
 pub record Shut (R : Rules) (saved : List (List ℕ)) : Type 0 where
   pub saved-none : saved ≡ []
   pub standing : (kind : Bool) (M : List ℕ) (v : ℕ) → R .standing kind M v ≡ 0
 
-abbrev pub StandsFor : Standing → Rules → List (List ℕ) → List ℕ → List ℕ → List ℕ → List ℕ → ℕ → ℕ → ℕ → Type 0
-StandsFor OpenedDead R saved masks cells trail heights n k top = Shut R saved
-StandsFor Live R saved masks cells trail heights n k top = Working R saved masks cells trail heights n k top
-StandsFor (Dead call) R saved masks cells trail heights n k top = Working R saved masks cells trail heights n k top
+abbrev pub StandsFor : Standing → Table → Rules → List (List ℕ) → List ℕ → List ℕ → List ℕ → List ℕ → ℕ → ℕ → ℕ → Type 0
+StandsFor OpenedDead T R saved masks cells trail heights n k top = Shut R saved
+StandsFor Live T R saved masks cells trail heights n k top = Working T R saved masks cells trail heights n k top
+StandsFor (Dead call) T R saved masks cells trail heights n k top = Working T R saved masks cells trail heights n k top
 
-pub record Represents (R : Rules) (S : State) (masks cells trail heights : List ℕ) (n k : ℕ) (session : Session) : Type 0 where
+pub record Represents (T : Table) (R : Rules) (S : State) (masks cells trail heights : List ℕ) (n k : ℕ) (session : Session) : Type 0 where
   pub room : Room masks cells trail n k
   pub suits : Suits R n k (length heights)
   pub masks-are : S .masks ≡ masks
   pub flag : S .dead ≡ isDead (session .standing)
   pub marks-are : length (S .saved) ≡ session .marks
   pub marks-in : session .marks ≤ length heights
-  pub stands : StandsFor (session .standing) R (S .saved) masks cells trail heights n k (session .top)
+  pub stands : StandsFor (session .standing) T R (S .saved) masks cells trail heights n k (session .top)
 
 pub record Running (masks cells trail heights : List ℕ) (n k : ℕ) (session : Session) : Type 0 where
+  pub table : Table
   pub rules : Rules
   pub state : State
-  pub represents : Represents rules state masks cells trail heights n k session
+  pub represents : Represents table rules state masks cells trail heights n k session
