@@ -1,23 +1,22 @@
 -- The laws of `PreviousTurn` and `PreviousCorner` of specs/Built.antt: `straight-flat`, no corner of either kind where the line goes straight on;
 -- `turn-corner`, where it turns by the kind's own step there is one; the starts, steps and ends of the two searches; and `done-back`, the corners
--- after the corner that was found are done. `point-bounds`, `done-on`: also after its links are laid. No contract cites this file. Assumes nothing.
+-- after the corner that was found are done. No contract cites this file. Assumes nothing.
 use mathlib.Core.Path.{_≡_, refl, sym, _∙_}
-use mathlib.Core.Bool.{Bool, true, false, not, cond}
+use mathlib.Core.Bool.{Bool, true, false, not}
 use mathlib.Core.Logic.{dite}
 use mathlib.Core.List.{List}
 use Prim.Native.Nat.{ℕ, zero, suc, _+_, _-_, _≤_, _<_}
 use native.Mathlib.Nat.{add-zero}
-use native.Mathlib.Decide.{ℕ-discrete, decLt}
+use native.Mathlib.Decide.{ℕ-discrete}
 use native.Mathlib.Omega.{arith}
-use lib.Dec.{ltb}
-use lib.ListN.{length, getD}
-use borrow.Author.Tests.{eq-eqb, ne-eqb, lt-ltb, le-ltb}
+use lib.ListN.{getD}
+use borrow.Author.Tests.{eq-eqb, ne-eqb}
 use Rattle.domains.specs.Mask.{testBit}
 use Rattle.domains.specs.Counts.{bit}
 use Rattle.domains.proofs.MaskLaws.{testBit-lt}
-use Rattle.segments_model.specs.Build.{Pointed, Done}
+use Rattle.segments_model.specs.Build.{Done}
 use Rattle.segments_model.specs.Lines.{lineOf, cornerOf}
-use Rattle.segments_model.proofs.BuildLaws.{done-skip, done-point}
+use Rattle.segments_model.proofs.BuildLaws.{done-skip}
 use Rattle.segments_model.proofs.LinesLaws.{corner-off, corner-inner}
 use Rattle.segments.specs.Built.{Straight, PreviousTurn, PreviousCorner}
 
@@ -73,30 +72,7 @@ done-down s (suc d) done flat =
     let back : s + suc d - 1 ≡ s + d = omega arith in
     done-down s d (rw back at (done-skip done (omega arith) (flat (s + suc d) (omega arith) (omega arith)))) (λ i s<i i≤. flat i s<i (omega arith))
 
-done-back : {n : ℕ} {C : ℕ → Bool} {g h : ℕ → ℕ} {l : List ℕ} {q t s : ℕ} → Done n C g h (t - 1) l q → PreviousCorner C t s → Done n C g h s l q
+pub done-back : {n : ℕ} {C : ℕ → Bool} {g h : ℕ → ℕ} {l : List ℕ} {q t s : ℕ} → Done n C g h (t - 1) l q → PreviousCorner C t s → Done n C g h s l q
 done-back {t = t} {s = s} done found =
     let split : t - 1 ≡ s + (t - 1 - s) = omega (arith, found .before) in
     done-down s (t - 1 - s) (rw split at done) (λ i s<i i≤. found .none i s<i (omega (arith, found .before)))
-
--- ---- the cells between it and t are pointed at the first right end q: before t + 1, and before q
-
-lesser-bounds : (x y r : ℕ) → r ≡ cond (ltb x y) x y → (r ≤ x) × (r ≤ y) × ((z : ℕ) → z ≤ x → z ≤ y → z ≤ r)
-lesser-bounds x y r r-is =
-    dite (decLt x y)
-    (λ less. let e : r ≡ x = r-is ∙ rw (lt-ltb x y less) refl in (omega arith, omega arith, λ z z≤x z≤y. omega arith))
-    (λ more. let e : r ≡ y = r-is ∙ rw (le-ltb x y (omega arith)) refl in (omega arith, omega arith, λ z z≤x z≤y. omega arith))
-
-module _ {n : ℕ} {C : ℕ → Bool} {g h : ℕ → ℕ} {l : List ℕ} {q t s : ℕ} (done : Done n C g h (t - 1) l q) (found : PreviousCorner C t s)
-    (past : ℕ) (past-is : past ≡ cond (ltb (t + 1) q) (t + 1) q) where
-  pub point-bounds : (s + 1 ≤ past) × (past ≤ t + 1) × (past ≤ q) × (q ≤ n + 1)
-  point-bounds =
-      let lesser = lesser-bounds (t + 1) q past past-is in
-      let first = done .laid .filling .first in (
-        lesser .2 (s + 1) (omega (arith, found .before)) (omega (arith, found .before, first .after)),
-        lesser .0,
-        lesser .1,
-        first .inside,
-      )
-
-  pub done-on : n < length l → (l′ : List ℕ) → Pointed (s + 1) past q l l′ → Done n C g h s l′ q
-  done-on n<len l′ pointed = done-point (done-back done found) n<len past (point-bounds .2) l′ pointed

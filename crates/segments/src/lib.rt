@@ -6,7 +6,7 @@
 ghost use mathlib.Core.Path.{_≡_};
 ghost use mathlib.Core.Bool.{cond};
 ghost use Prim.Native.Nat.{_+_, _-_, _^_, _<_, _≤_};
-ghost use lib.Dec.{eqb, ltb};
+ghost use lib.Dec.{eqb};
 ghost use lib.ListN.{length, getD, set};
 ghost use Rattle.domains.specs.Mask.{testBit};
 ghost use Rattle.domains.specs.Counts.{bit};
@@ -242,14 +242,16 @@ fn blank(cells: &mut [u16], n: usize)
     }
 }
 
-// Makes the cells from `from` on and before `past` links to `next`.
-fn point(cells: &mut [u16], from: usize, past: usize, next: usize)
-    requires { ⌜ (from ≤ past) × (past ≤ length (now cells)) × (past ≤ next) × (next ≤ 1024) ⌝ }
-    ensures { λ _. ⌜ Pointed from past next (now (cells .entry)) (now (cells .exit)) ⌝ }
+// Makes the cells from `from` on and before `next` links to `next`.
+fn point(cells: &mut [u16], from: usize, next: usize)
+    requires { ⌜ (from ≤ next) × (next ≤ length (now cells)) × (next ≤ 1024) ⌝ }
+    ensures { λ _. ⌜ Pointed from next next (now (cells .entry)) (now (cells .exit)) ⌝ }
 {
+    let mut c = (1023 + (next - from)) as u16;
     let mut i = from;
-    while i < past {
-        cells[i] = (1024 + (next - i - 1)) as u16;
+    while i < next {
+        cells[i] = c;
+        c -= 1;
         i += 1;
     }
 }
@@ -329,13 +331,12 @@ fn fill(
         };
         next = first;
         let s = previous_corner(rises, n, v, lower, t);
-        let past = lesser(t + 1, next);
-        point(cells, s + 1, past, next);
         let before = count_back(rises, masks, v, lower, s, t, r, k);
         r = before.risen;
         k = before.counted;
         t = s;
     }
+    point(cells, 1, next);
     true
 }
 
@@ -379,7 +380,7 @@ fn visit(
     lost: usize,
     next: usize,
 ) -> Visited
-    requires { ⌜ (0 < t) × (t ≤ n) × (n < length (now cells)) × (n < 1024) × (gained < 1024) × (t < next) ⌝ }
+    requires { ⌜ (0 < t) × (t ≤ n) × (n < length (now cells)) × (n < 1024) × (gained < 1024) × (t < next) × (next ≤ n + 1) ⌝ }
     ensures { λ r. ⌜ Visit n t corner gained lost next (now (cells .entry)) (now (cells .exit)) r ⌝ }
 {
     if !corner {
@@ -394,7 +395,7 @@ fn visit(
 
 // Adds the corner t with slack x before those that the cells hold, of which the first right end is at next. The first right end after it.
 fn insert(cells: &mut [u16], n: usize, t: usize, x: usize, next: usize) -> usize
-    requires { ⌜ (0 < t) × (t ≤ n) × (n < length (now cells)) × (n < 1024) × (x < 1024) × (t < next) ⌝ }
+    requires { ⌜ (0 < t) × (t ≤ n) × (n < length (now cells)) × (n < 1024) × (x < 1024) × (t < next) × (next ≤ n + 1) ⌝ }
     ensures { λ r. ⌜ Inserted n t x next (now (cells .entry)) (now (cells .exit)) r ⌝ }
 {
     if cells[0] != 0 {
@@ -406,6 +407,7 @@ fn insert(cells: &mut [u16], n: usize, t: usize, x: usize, next: usize) -> usize
     }
     if n < next {
         cells[t] = (x - 1) as u16;
+        point(cells, t + 1, next);
         return t;
     }
     let y = wide(cells[next]);
@@ -414,6 +416,7 @@ fn insert(cells: &mut [u16], n: usize, t: usize, x: usize, next: usize) -> usize
     }
     cells[next] = (y - x) as u16;
     cells[t] = (x - 1) as u16;
+    point(cells, t + 1, next);
     t
 }
 
@@ -475,15 +478,6 @@ fn choose(b: bool, x: u32, y: u32) -> usize
         return x as usize;
     }
     y as usize
-}
-
-fn lesser(x: usize, y: usize) -> usize
-    ensures { λ r. ⌜ r ≡ cond (ltb x y) x y ⌝ }
-{
-    if x < y {
-        return x;
-    }
-    y
 }
 
 fn wide(x: u16) -> usize

@@ -5,18 +5,20 @@ use mathlib.Core.Bool.{Bool, true}
 use mathlib.Core.Logic.{dite}
 use mathlib.Core.List.{List}
 use Prim.Native.Nat.{ℕ, _+_, _-_, _≤_, _<_}
+use native.Mathlib.Nat.{le-refl}
 use native.Mathlib.Decide.{ℕ-discrete, decLt}
 use native.Mathlib.Omega.{arith}
 use lib.ListN.{length, getD, set, length-set}
 use lib.Seq.{getD-set-same, getD-set-other}
 use Rattle.segments_model.specs.Cells.{sumTo}
 use Rattle.segments_model.specs.Covers.{Cover}
-use Rattle.segments_model.specs.Build.{Filling, Laid, Inserted}
+use Rattle.segments_model.specs.Build.{Filling, Laid, Inserted, Pointed}
 use Rattle.segments_model.specs.Links.{gapOf, gaps, Fresh}
+use Rattle.segments_model.specs.Search.{Next}
 use Rattle.segments_model.proofs.SumLaws.{upTo-none, upTo-flat, upTo-last, sumTo-set-after}
 use Rattle.segments_model.proofs.FillingLaws.{before-first, from-first, filling-spent, filling-behind, filling-zero}
 use Rattle.segments_model.proofs.LinksLaws.{gapOf-end, gaps-length, gaps-first, gaps-set, gaps-set-first, gaps-end, end-gaps}
-use Rattle.segments_model.proofs.LinkedLaws.{linked-set, linked-set-first, linked-insert}
+use Rattle.segments_model.proofs.LinkedLaws.{gaps-set-same, gaps-set-other, linked-set, linked-set-first, linked-insert, gaps-pointed, linked-pointed}
 
 -- ---- t is a right end
 
@@ -153,40 +155,77 @@ module _ (n t x q : ℕ) (l : List ℕ) (0<t : 0 < t) (t≤n : t ≤ n) (n<len :
       own-gap : gapOf (x - 1) ≡ x
       own-gap = gapOf-end (x - 1) (omega arith) ∙ omega arith
 
-      pub inserted-alone : n < q → Inserted n t x q l (set l t (x - 1)) t
-      inserted-alone n<q =
+      -- the cells between t and q, which was the first right end, are pointed at it
+      laid-point : {C : ℕ → Bool} {f : ℕ → ℕ} (l₁ l′ : List ℕ) → length l₁ ≡ length l → Next n t (gaps l₁) q → Pointed (t + 1) q q l₁ l′
+          → Laid n C f (t - 1) l₁ t → Laid n C f (t - 1) l′ t
+      laid-point l₁ l′ size next pointed laid =
           record {
-            size = length-set l t (x - 1);
+            filling = rw (gaps-pointed next (omega arith) (le-refl q) pointed) (laid .filling);
+            linked = linked-pointed next (omega arith) (le-refl q) pointed (laid .linked);
+            fresh = λ i 0<i i<t. pointed .before i (omega arith) ∙ laid .fresh i 0<i i<t;
+          }
+
+      pub inserted-alone : n < q → (l′ : List ℕ) → Pointed (t + 1) q q (set l t (x - 1)) l′ → Inserted n t x q l l′ t
+      inserted-alone n<q l′ pointed =
+          let l₁ = set l t (x - 1) in
+          record {
+            size = pointed .size ∙ length-set l t (x - 1);
             laid = λ C f laid corner slack.
+                let first = laid .filling .first in
+                let next : Next n t (gaps l₁) q =
                 record {
+                  after = first .after;
+                  inside = first .inside;
+                  stands = λ q≤n. absurd (omega arith);
+                  gap = λ i t<i i<q. gaps-set-other l t (x - 1) 0<t (omega arith) i (λ e. omega arith) ∙ first .gap i t<i i<q;
+                } in
+                laid-point l₁ l′ (length-set l t (x - 1)) next pointed
+                (record {
                   filling =
                       rw (gaps-set l t (x - 1) 0<t, own-gap)
                       (subst (λ (y : ℕ). Filling n C f (t - 1) (set (gaps l) t y) t) slack
                       (filling-alone (laid .filling) 0<t t≤n n<gaps none-gaps corner (omega arith) n<q));
                   linked = linked-insert l t (x - 1) 0<t (omega arith) (laid .linked) (laid .fresh) (omega arith);
                   fresh = λ i 0<i i<t. getD-set-other l t i (x - 1) 0 (λ e. omega arith) ∙ laid .fresh i 0<i (omega arith);
-                };
+                });
           }
 
-      pub inserted-before : q ≤ n → x ≤ getD l q 0 → Inserted n t x q l (set (set l q (getD l q 0 - x)) t (x - 1)) t
-      inserted-before q≤n less =
+      pub inserted-before : q ≤ n → x ≤ getD l q 0 → (l′ : List ℕ) → Pointed (t + 1) q q (set (set l q (getD l q 0 - x)) t (x - 1)) l′
+          → Inserted n t x q l l′ t
+      inserted-before q≤n less l′ pointed =
+          let y = getD l q 0 - x in
+          let l₁ = set l q y in
+          let l₂ = set l₁ t (x - 1) in
+          let size₁ = length-set l q y in
+          let size₂ : length l₂ ≡ length l = length-set l₁ t (x - 1) ∙ size₁ in
           record {
-            size = simp length-set;
+            size = pointed .size ∙ size₂;
             laid = λ C f laid corner slack.
-                let y = getD l q 0 - x in
-                let l₁ = set l q y in
-                let t<q : t < q = laid .filling .first .after in
+                let first = laid .filling .first in
+                let t<q : t < q = first .after in
                 let end = first-end laid q≤n in
                 let rest : gapOf y ≡ getD (gaps l) q 0 - x = gapOf-end y (omega (arith, end .0)) ∙ omega (arith, end .1) in
                 let fresh : Fresh t l₁ = λ i 0<i i≤t. getD-set-other l q i y 0 (λ e. omega arith) ∙ laid .fresh i 0<i i≤t in
+                let at-q : getD (gaps l₂) q 0 ≡ gapOf y =
+                gaps-set-other l₁ t (x - 1) 0<t (omega (arith, size₁)) q (λ e. omega arith) ∙ gaps-set-same l q y (omega arith) (omega arith) in
+                let next : Next n t (gaps l₂) q =
                 record {
+                  after = t<q;
+                  inside = first .inside;
+                  stands = λ _. omega (arith, at-q, rest, end .1);
+                  gap = λ i t<i i<q.
+                      gaps-set-other l₁ t (x - 1) 0<t (omega (arith, size₁)) i (λ e. omega arith)
+                      ∙ gaps-set-other l q y (omega arith) (omega arith) i (λ e. omega arith) ∙ first .gap i t<i i<q;
+                } in
+                laid-point l₂ l′ size₂ next pointed
+                (record {
                   filling =
                       rw (gaps-set l₁ t (x - 1) 0<t, gaps-set l q y (omega arith), own-gap, rest)
                       (subst (λ (w : ℕ). Filling n C f (t - 1) (set (set (gaps l) q (getD (gaps l) q 0 - w)) t w) t) slack
                       (filling-before (laid .filling) 0<t t≤n n<gaps none-gaps corner (omega arith) q≤n (omega (arith, end .1))));
-                  linked = linked-insert l₁ t (x - 1) 0<t (omega (arith, length-set l q y))
+                  linked = linked-insert l₁ t (x - 1) 0<t (omega (arith, size₁))
                       (linked-set l q y (omega arith) (omega arith) (laid .linked) (λ empty. absurd (omega (arith, end .1)))
                       (λ link. absurd (omega (arith, end .0)))) fresh (omega arith);
                   fresh = λ i 0<i i<t. getD-set-other l₁ t i (x - 1) 0 (λ e. omega arith) ∙ fresh i 0<i (omega arith);
-                };
+                });
           }

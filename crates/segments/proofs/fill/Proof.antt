@@ -1,16 +1,17 @@
 -- `segments::fill` meets its contract. The invariant: t is at most n, the list is as long as it was, the counts stand at t (`Counts`), and the
--- corners after t are done (`DoneAfter`). The measure is t. One turn: `turn-onward` and `done-on`; it ends with `turn-broken` or
--- `built-all`. Assumes nothing.
-use mathlib.Core.Path.{_≡_, refl}
+-- corners after t are done (`DoneAfter`). The measure is t. One turn: `turn-onward` and `done-back`; it ends with `turn-broken` or
+-- `built-all`, once the cells before the first right end are pointed at it (`done-point`). Assumes nothing.
+use mathlib.Core.Path.{_≡_, refl, _∙_}
 use Prim.Native.Nat.{_≤_}
+use native.Mathlib.Nat.{le-refl}
 use native.Mathlib.Omega.{arith}
 use borrow.Author.Needs.{needs}
 use lib.ListN.{length}
 use Rattle.segments_model.specs.Build.{Counts}
-use Rattle.segments_model.proofs.BuildLaws.{done-none}
+use Rattle.segments_model.proofs.BuildLaws.{done-none, done-point}
 use Rattle.segments_model.proofs.CountsLaws.{choice-bound}
 use Rattle.segments.proofs.BuiltLaws.{DoneAfter, turn-broken, turn-onward, built-broken, built-all}
-use Rattle.segments.proofs.TurnLaws.{point-bounds, done-on}
+use Rattle.segments.proofs.TurnLaws.{done-back}
 use Rattle.segments.proofs.fill.Statement.{statement}
 use Rattle.segments.proofs.fill.Tie as tie
 
@@ -41,7 +42,7 @@ visit-requires c κs =
     let chosen = c .before .before in
     let turn = chosen .before .before .before in
     let lower = turn .before .before .before .before .args .lower in
-    omega (arith, chosen .choose .ensures, choice-bound (turn .loop .inv .2) lower, turn .loop .inv .3 .laid .filling .first .after)
+    omega (arith, chosen .choose .ensures, choice-bound (turn .loop .inv .2) lower, turn .loop .inv .3 .laid .filling .first .after, turn .loop .inv .3 .laid .filling .first .inside)
 
 enum-known-first : tie.Need-enum-known-first Inv-loop μ-loop
 enum-known-first c = search needs
@@ -70,37 +71,11 @@ previous-corner-requires c κs =
     let start = turn .before .before .before .before in
     omega (arith, test .loop-test .taken, turn .loop .inv .0, start .pre .1, start .pre .4)
 
-add-lesser : tie.Need-add-lesser Inv-loop μ-loop
-add-lesser c =
-    let turn = c .before .before .before .before .before .before .before .before .before .before .before .before in
-    omega (arith, turn .loop .inv .0, turn .before .before .before .before .pre .3)
-
-lesser-requires : tie.Need-lesser-requires Inv-loop μ-loop
-lesser-requires c κs = search needs
-
-add-point : tie.Need-add-point Inv-loop μ-loop
-add-point c =
-    let turn = c .before .before .before .before .before .before .before .before .before .before .before .before .before .before in
-    omega (arith, c .before .before .previous-corner .ensures .before, turn .loop .inv .0, turn .before .before .before .before .pre .3)
-
-point-requires : tie.Need-point-requires Inv-loop μ-loop
-point-requires c κs =
-    let visited = c .before .before .before .before .before .before .before .before in
-    let chosen = visited .before .before in
-    let turn = chosen .before .before .before .before in
-    let start = turn .before .before .before .before in
-    let bounds =
-    point-bounds
-    (turn-onward _ (turn .loop .inv .2) _ _ _ (turn .loop .inv .3) (chosen .before .before .corner-at .ensures) (chosen .before .choose .ensures)
-    (chosen .choose2 .ensures) (visited .visit .ensures) (c .before .before .before .before .first .given .1))
-    (c .before .before .previous-corner .ensures) _ (c .before .lesser .ensures) in
-    omega (arith, bounds, turn .loop .inv .0, turn .loop .inv .1, start .pre .0, start .pre .3, visited .visit .ensures .size)
-
 count-back-requires : tie.Need-count-back-requires Inv-loop μ-loop
 count-back-requires c κs =
-    let turn = c .before .before .before .before .before .before .before .before .before .before .before .before .before .before .before .before .before in
+    let turn = c .before .before .before .before .before .before .before .before .before .before .before .before in
     let start = turn .before .before .before .before in (
-      omega (arith, c .before .before .before .before .before .previous-corner .ensures .before),
+      omega (arith, c .previous-corner .ensures .before),
       omega (arith, turn .loop .inv .0, start .pre .1),
       omega (arith, turn .loop .inv .0, start .pre .2),
       start .pre .4,
@@ -108,31 +83,41 @@ count-back-requires c κs =
     )
 
 loop-less : tie.Need-loop-less Inv-loop μ-loop
-loop-less c = omega (arith, c .before .before .before .before .before .before .previous-corner .ensures .before)
+loop-less c = omega (arith, c .before .previous-corner .ensures .before)
 
 loop-again : tie.Need-loop-again Inv-loop μ-loop
 loop-again c =
-    let visited = c .before .before .before .before .before .before .before .before .before .before .before .before in
+    let visited = c .before .before .before .before .before .before .before in
     let chosen = visited .before .before in
     let turn = chosen .before .before .before .before in
-    let start = turn .before .before .before .before in
-    let found = c .before .before .before .before .before .before .previous-corner .ensures in
-    let pointed = c .before .before .before .point .ensures in
-    let size : length (visited .visit .last .0) ≡ length (start .args .cells .now) = omega (arith, turn .loop .inv .1, visited .visit .ensures .size) in (
+    let found = c .before .previous-corner .ensures in (
       omega (arith, found .before, turn .loop .inv .0),
-      omega (arith, size, pointed .size),
+      omega (arith, turn .loop .inv .1, visited .visit .ensures .size),
       c .count-back .ensures,
-      done-on
-          (turn-onward _ (turn .loop .inv .2) _ _ _ (turn .loop .inv .3) (chosen .before .before .corner-at .ensures) (chosen .before .choose .ensures)
-          (chosen .choose2 .ensures) (visited .visit .ensures) (c .before .before .before .before .before .before .before .before .first .given .1))
-          found _ (c .before .before .before .before .before .lesser .ensures) (omega (arith, start .pre .0, size)) _ pointed,
+      done-back (turn-onward _ (turn .loop .inv .2) _ _ _ (turn .loop .inv .3) (chosen .before .before .corner-at .ensures) (chosen .before .choose .ensures)
+          (chosen .choose2 .ensures) (visited .visit .ensures) (c .before .before .before .first .given .1)) found,
     )
 
+point-requires : tie.Need-point-requires Inv-loop μ-loop
+point-requires c κs =
+    let all = c .before .before .loop in
+    let start = c .before .before .before .before .before .before in
+    omega (arith, all .inv .1, all .inv .3 .laid .filling .first .after, all .inv .3 .laid .filling .first .inside, start .pre .0, start .pre .3)
+
 same-length-2 : tie.Need-same-length-2 Inv-loop μ-loop
-same-length-2 c = omega arith
+same-length-2 c =
+    c .before .before .point .ensures .size ∙ c .before .before .before .before .before .loop .inv .1
 
 returns-2 : tie.Need-returns-2 Inv-loop μ-loop
-returns-2 c = built-all _ _ _ _ _ _ _ (c .before .loop .inv .1) _ _ (omega arith) (c .before .loop .inv .3)
+returns-2 c =
+    let all = c .before .before .before .before .before .loop in
+    let start = c .before .before .before .before .before .before .before .before .before in
+    let pointed = c .before .before .point .ensures in
+    let none : all .t ≡ 0 = omega (arith, c .before .before .before .before .loop-test .left) in
+    let done : DoneAfter (start .args .lower) (start .args .n) (start .args .rises .now) (start .args .masks .now) (start .args .v) 0 (all .cells) (all .next) =
+    rw none at (all .inv .3) in
+    built-all _ _ _ _ _ _ _ (pointed .size ∙ all .inv .1) 0 _ refl
+    (done-point done (omega (arith, all .inv .1, start .pre .0)) _ (le-refl (all .next)) _ pointed)
 
 pub fill-spec : {M : Type 1} → statement M
 fill-spec =
@@ -151,12 +136,9 @@ fill-spec =
     same-length
     returns
     previous-corner-requires
-    add-lesser
-    lesser-requires
-    add-point
-    point-requires
     count-back-requires
     loop-less
     loop-again
+    point-requires
     same-length-2
     returns-2)

@@ -1,7 +1,9 @@
 -- `segments::insert` meets its contract: each of its five returns is one law of `InsertLaws` of segments_model. Assumes nothing.
-use Prim.Native.Nat.{_-_}
+use mathlib.Core.Path.{_∙_, subst}
+use Prim.Native.Nat.{ℕ, _+_, _-_}
 use native.Mathlib.Omega.{arith}
-use lib.ListN.{length-set}
+use lib.ListN.{set, length-set}
+use Rattle.segments_model.specs.Build.{Pointed}
 use Rattle.segments_model.proofs.InsertLaws.{inserted-spent, inserted-behind, inserted-zero, inserted-alone, inserted-before}
 use borrow.Author.Needs.{needs}
 use Rattle.segments.proofs.insert.Statement.{statement}
@@ -37,11 +39,22 @@ mul-cells c = search needs
 slice-write-cells-2 : tie.Need-slice-write-cells-2
 slice-write-cells-2 c = search needs
 
+add-point : tie.Need-add-point
+add-point c = omega arith
+
+point-requires : tie.Need-point-requires
+point-requires c κs =
+    let a = c .before .before .before .before .before .before .args in
+    omega (arith, c .before .before .before .before .before .before .pre, length-set (a .cells .now) (a .t) (a .x - 1))
+
 same-length-2 : tie.Need-same-length-2
-same-length-2 c = search needs
+same-length-2 c =
+    let a = c .before .before .before .before .before .before .before .before .before .args in
+    c .before .before .point .ensures .size ∙ length-set (a .cells .now) (a .t) (a .x - 1)
 
 returns-3 : tie.Need-returns-3
-returns-3 c = inserted-alone _ _ _ _ _ (omega arith) (omega arith) (omega arith) (omega arith) (omega arith) (omega arith) (omega arith)
+returns-3 c =
+    inserted-alone _ _ _ _ _ (omega arith) (omega arith) (omega arith) (omega arith) (omega arith) (omega arith) (omega arith) _ (c .before .before .point .ensures)
 
 mul-wide : tie.Need-mul-wide
 mul-wide c = search needs
@@ -78,13 +91,28 @@ slice-write-cells-4 c =
     let a = c .before .before .before .before .before .before .before .before .args in
     omega (arith, length-set (a .cells .now) (a .next) (c .before .wide .result - a .x))
 
+add-point-2 : tie.Need-add-point-2
+add-point-2 c = omega arith
+
+point-requires-2 : tie.Need-point-requires-2
+point-requires-2 c κs =
+    let a = c .before .before .before .before .before .before .before .before .before .args in
+    let y = c .before .before .wide .result in
+    omega (arith, c .before .before .before .before .before .before .before .before .before .pre, length-set (set (a .cells .now) (a .next) (y - a .x)) (a .t) (a .x - 1), length-set (a .cells .now) (a .next) (y - a .x))
+
 same-length-3 : tie.Need-same-length-3
-same-length-3 c = search needs
+same-length-3 c =
+    let a = c .before .before .before .before .before .before .before .before .before .before .before .before .args in
+    let y = c .before .before .before .before .before .wide .result in
+    c .before .before .point2 .ensures .size ∙ length-set (set (a .cells .now) (a .next) (y - a .x)) (a .t) (a .x - 1) ∙ length-set (a .cells .now) (a .next) (y - a .x)
 
 returns-5 : tie.Need-returns-5
 returns-5 c =
-    rw (c .before .wide .ensures .0)
-    (inserted-before _ _ _ _ _ (omega arith) (omega arith) (omega arith) (omega arith) (omega arith) (omega arith) (omega arith) (omega arith))
+    let a = c .before .before .before .before .before .before .before .before .before .before .before .before .args in
+    let read = c .before .before .before .before .before .wide .ensures .0 in
+    inserted-before _ _ _ _ _ (omega arith) (omega arith) (omega arith) (omega arith) (omega arith) (omega arith) (omega arith) (omega (arith, read)) _
+    (subst (λ (y : ℕ). Pointed (a .t + 1) (a .next) (a .next) (set (set (a .cells .now) (a .next) (y - a .x)) (a .t) (a .x - 1)) (c .before .before .point2 .last .0)) read
+    (c .before .before .point2 .ensures))
 
 pub insert-spec : {M : Type 1} → statement M
 insert-spec =
@@ -100,6 +128,8 @@ insert-spec =
     cast-cells-2
     mul-cells
     slice-write-cells-2
+    add-point
+    point-requires
     same-length-2
     returns-3
     mul-wide
@@ -113,5 +143,7 @@ insert-spec =
     cast-cells-4
     mul-cells-3
     slice-write-cells-4
+    add-point-2
+    point-requires-2
     same-length-3
     returns-5)
