@@ -1,7 +1,7 @@
 // The segments of one value and one kind of bound, kept in one cell for each prefix from 0 to n: built from the bound's rises and the masks,
 // brought up to date when the slack falls by one after a slot, put back as they were before such a fall, and counted. Cell 0 is the spent corner.
-// A later cell below 1024 is a right end, one less than its gap; from 1024 on it is a link, 1024 to the next place, past which no right end is
-// jumped. `lower` is the kind: true for the lower bound. Nothing is refused here. The contracts cite `specs/Fell.antt` and `specs/Built.antt`, and
+// A later cell below 1024 is a right end, one less than its gap; from 1024 on it is a link to a later place, 1024 to the next one, that jumps no
+// right end. `lower` is the kind: true for the lower bound. Nothing is refused here. The contracts cite `specs/Fell.antt` and `specs/Built.antt`, and
 // the definitions of segments_model.
 ghost use mathlib.Core.Path.{_≡_};
 ghost use mathlib.Core.Bool.{cond};
