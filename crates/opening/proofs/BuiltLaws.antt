@@ -11,7 +11,7 @@ use lib.ListN.{length}
 use Rattle.closing_model.specs.Table.{Table}
 use Rattle.segments_model.specs.Lines.{Rising, Segments}
 use Rattle.segments_model.specs.Part.{Lent}
-use Rattle.segments.specs.Built.{BuildAnswer, Built}
+use Rattle.building.specs.Built.{BuildAnswer, Built}
 use Rattle.filter_model.specs.Mirror.{boundLine, row, cellsOf}
 use Rattle.filter_model.specs.Rises.{risesOf, TableRises}
 use Rattle.filter_model.proofs.RisesLaws.{rises-mirror}

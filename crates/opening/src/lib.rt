@@ -62,7 +62,7 @@ fn build_rows(
     ensures { λ r. ⌜ RowsBuilt lower n k (now (rises .entry)) (now (masks .entry)) (now (cells .entry)) (now (cells .exit)) k r ⌝ }
 {
     for v in 0..k {
-        if !segments::build_in(
+        if !building::build_in(
             cells,
             (first + v) as usize * (n + 1),
             rises,

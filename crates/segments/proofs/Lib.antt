@@ -1,4 +1,1 @@
-pub mod BuiltLaws
 pub mod FellLaws
-pub mod MaskTestLaws
-pub mod TurnLaws

@@ -1,0 +1,176 @@
+// Building the segments of one value and one kind of bound from the bound's rises and the masks, in one cell for each prefix from 0 to n (the crate
+// `segments` says what a cell holds), from the last corner to the first. `lower` is the kind: true for the lower bound. A broken corner is answered;
+// nothing is refused here. The contracts cite `specs/Built.antt` and the definitions of segments_model.
+ghost use mathlib.Core.Path.{_≡_};
+ghost use mathlib.Core.Bool.{cond};
+ghost use Prim.Native.Nat.{_+_, _<_, _≤_};
+ghost use lib.ListN.{length, getD};
+ghost use Rattle.segments_model.specs.Build.{Inserted, Pointed, Counts};
+ghost use Rattle.segments_model.specs.Links.{Fresh};
+ghost use Rattle.segments_model.specs.Part.{Lent};
+ghost use Rattle.building.specs.Built.{Visit, Built};
+
+// How the building goes on after a prefix: its corner lacks slack, or the first right end is at a place.
+enum Visited {
+    Lacking,
+    Onward(usize),
+}
+
+// Fills the cells of one value from its rises and the masks. False where a corner is broken.
+pub fn build(cells: &mut [u16], rises: &[u32], masks: &[u32], n: usize, v: u32, lower: bool) -> bool
+    requires { ⌜ (n < length (now cells)) × (n < length (now rises)) × (n ≤ length (now masks)) × (n < 1024) × (v < 32) ⌝ }
+    ensures { λ r. ⌜ Built lower n v (now (rises .entry)) (now (masks .entry)) (now (cells .entry)) (now (cells .exit)) r ⌝ }
+{
+    blank(cells, n);
+    let total = corners::count_all(rises, masks, n, v, lower);
+    let risen = total.risen;
+    let counted = total.counted;
+    fill(cells, rises, masks, n, v, lower, risen, counted)
+}
+
+// The same for the n + 1 cells from `base` on of a longer list, whose other cells stay.
+pub fn build_in(
+    cells: &mut [u16],
+    base: usize,
+    rises: &[u32],
+    masks: &[u32],
+    n: usize,
+    v: u32,
+    lower: bool,
+) -> bool
+    requires { ⌜ (base + n < length (now cells)) × (n < length (now rises)) × (n ≤ length (now masks)) × (n < 1024) × (v < 32) ⌝ }
+    ensures { λ r. ⌜ Lent base (n + 1) (λ a b. Built lower n v (now (rises .entry)) (now (masks .entry)) a b r)
+        (now (cells .entry)) (now (cells .exit)) ⌝ }
+{
+    let end = base + n + 1;
+    build(&mut cells[base..end], rises, masks, n, v, lower)
+}
+
+// Empties the cells up to n: no spent corner, and links to the next place.
+fn blank(cells: &mut [u16], n: usize)
+    requires { ⌜ n < length (now cells) ⌝ }
+    ensures { λ _. ⌜ (length (now (cells .exit)) ≡ length (now (cells .entry))) × (getD (now (cells .exit)) 0 0 ≡ 0) × Fresh n (now (cells .exit)) ⌝ }
+{
+    cells[0] = 0;
+    let mut t: usize = 1;
+    while t <= n {
+        cells[t] = 1024;
+        t += 1;
+    }
+}
+
+// Takes the corners from the last to the first, with the line and the count at n, into cells that are empty.
+fn fill(
+    cells: &mut [u16],
+    rises: &[u32],
+    masks: &[u32],
+    n: usize,
+    v: u32,
+    lower: bool,
+    risen: u32,
+    counted: u32,
+) -> bool
+    requires { ⌜ (n < length (now cells)) × (n < length (now rises)) × (n ≤ length (now masks)) × (n < 1024) × (v < 32)
+        × Counts lower (now rises) (now masks) v n risen counted × (getD (now cells) 0 0 ≡ 0) × Fresh n (now cells) ⌝ }
+    ensures { λ r. ⌜ Built lower n v (now (rises .entry)) (now (masks .entry)) (now (cells .entry)) (now (cells .exit)) r ⌝ }
+{
+    let mut r = risen;
+    let mut k = counted;
+    let mut next = n + 1;
+    let mut t = n;
+    while 0 < t {
+        let corner = corners::corner_at(rises, n, v, lower, t);
+        let gained = choose(lower, k, r);
+        let lost = choose(lower, r, k);
+        let Visited::Onward(first) = visit(cells, n, t, corner, gained, lost, next) else {
+            return false;
+        };
+        next = first;
+        let s = corners::previous_corner(rises, n, v, lower, t);
+        let before = corners::count_back(rises, masks, v, lower, s, t, r, k);
+        r = before.risen;
+        k = before.counted;
+        t = s;
+    }
+    point(cells, 1, next);
+    true
+}
+
+// Takes the prefix t, where those after it are done and `next` is the first right end.
+fn visit(
+    cells: &mut [u16],
+    n: usize,
+    t: usize,
+    corner: bool,
+    gained: usize,
+    lost: usize,
+    next: usize,
+) -> Visited
+    requires { ⌜ (0 < t) × (t ≤ n) × (n < length (now cells)) × (n < 1024) × (gained < 1024) × (t < next) × (next ≤ n + 1) ⌝ }
+    ensures { λ r. ⌜ Visit n t corner gained lost next (now (cells .entry)) (now (cells .exit)) r ⌝ }
+{
+    if !corner {
+        return Visited::Onward(next);
+    }
+    if gained < lost {
+        return Visited::Lacking;
+    }
+    let first = insert(cells, n, t, gained - lost, next);
+    Visited::Onward(first)
+}
+
+// Adds the corner t with slack x before those that the cells hold, of which the first right end is at next. The first right end after it.
+fn insert(cells: &mut [u16], n: usize, t: usize, x: usize, next: usize) -> usize
+    requires { ⌜ (0 < t) × (t ≤ n) × (n < length (now cells)) × (n < 1024) × (x < 1024) × (t < next) × (next ≤ n + 1) ⌝ }
+    ensures { λ r. ⌜ Inserted n t x next (now (cells .entry)) (now (cells .exit)) r ⌝ }
+{
+    if cells[0] != 0 {
+        return next;
+    }
+    if x == 0 {
+        cells[0] = t as u16;
+        return next;
+    }
+    if n < next {
+        cells[t] = (x - 1) as u16;
+        point(cells, t + 1, next);
+        return t;
+    }
+    let y = wide(cells[next]);
+    if y < x {
+        return next;
+    }
+    cells[next] = (y - x) as u16;
+    cells[t] = (x - 1) as u16;
+    point(cells, t + 1, next);
+    t
+}
+
+// Makes the cells from `from` on and before `next` links to `next`.
+fn point(cells: &mut [u16], from: usize, next: usize)
+    requires { ⌜ (from ≤ next) × (next ≤ length (now cells)) × (next ≤ 1024) ⌝ }
+    ensures { λ _. ⌜ Pointed from next next (now (cells .entry)) (now (cells .exit)) ⌝ }
+{
+    let mut c = (1023 + (next - from)) as u16;
+    let mut i = from;
+    while i < next {
+        cells[i] = c;
+        c -= 1;
+        i += 1;
+    }
+}
+
+fn choose(b: bool, x: u32, y: u32) -> usize
+    ensures { λ r. ⌜ r ≡ cond b x y ⌝ }
+{
+    if b {
+        return x as usize;
+    }
+    y as usize
+}
+
+fn wide(x: u16) -> usize
+    ensures { λ r. ⌜ (r ≡ x) × (r < 65536) ⌝ }
+{
+    x as usize
+}

@@ -1,0 +1,2 @@
+pub mod MaskTestLaws
+pub mod TurnLaws
