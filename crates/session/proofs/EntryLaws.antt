@@ -26,9 +26,9 @@ use Rattle.settling.proofs.SettleLaws.{fit-of}
 use Rattle.session_model.specs.BookRun.{stateAfter, repliesOf}
 use Rattle.session_model.specs.Calls.{callsOf}
 use Rattle.session_model.specs.State.{wordsOf}
-use Rattle.session.specs.BookRan.{opensLive, BookRunnable, BookRan}
+use Rattle.running.specs.BookRan.{opensLive, BookRunnable, BookRan}
 use Rattle.session.specs.Entry.{badCalls, mostMarks, sessionFault, Outcome, refused, openedWord, sessionGood, unless, sessionOf, SessionRan, SessionReady, Exactly}
-use Rattle.session.specs.declared.Ended.{Ended}
+use Rattle.running.specs.declared.Ended.{Ended}
 
 -- ---- sessionFault
 or-first : (a b : Bool) → a ≡ true → a || b ≡ true

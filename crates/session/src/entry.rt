@@ -1,11 +1,11 @@
 // The session entry, typed. It refuses by the book's numbers 1 to 8, then by 10 where the call list is not whole calls or too long, then by 9
 // where an output is too short; every book, list and length gets an answer. The contracts cite `specs/Entry.antt`.
-use crate::books::run_book;
 use answer::Answer;
 use book::Limits;
 use book::number;
 use book::read;
 use book::slots;
+use running::run_book;
 ghost use mathlib.Core.Path.{_≡_};
 ghost use lib.ListN.{length};
 ghost use Rattle.answer.specs.Answer.{wordOf};

@@ -1,0 +1,51 @@
+-- `acts::act::cut_slot` meets its contract: the filter's `fix` where it is an assign, else its `strike`. Assumes nothing.
+use borrow.Author.Needs.{needs}
+use Rattle.acts.proofs.act.cut_slot.Statement.{statement}
+use Rattle.acts.proofs.act.cut_slot.Tie as tie
+
+fix-requires : tie.Need-fix-requires
+fix-requires c κs = search needs
+
+same-length : tie.Need-same-length
+same-length c = search needs
+
+same-length-2 : tie.Need-same-length-2
+same-length-2 c = search needs
+
+same-length-3 : tie.Need-same-length-3
+same-length-3 c = search needs
+
+returns : tie.Need-returns
+returns c =
+    rw (c .before .before .before .before .before .before .before .before .before .before .if1 .taken) (c .before .before .before .before .before .before .fix .ensures)
+
+strike-requires : tie.Need-strike-requires
+strike-requires c κs = search needs
+
+same-length-4 : tie.Need-same-length-4
+same-length-4 c = search needs
+
+same-length-5 : tie.Need-same-length-5
+same-length-5 c = search needs
+
+same-length-6 : tie.Need-same-length-6
+same-length-6 c = search needs
+
+returns-2 : tie.Need-returns-2
+returns-2 c =
+    rw (c .before .before .before .before .before .before .before .before .before .before .if1 .left) (c .before .before .before .before .before .before .strike .ensures)
+
+pub cut-slot-spec : {M : Type 1} → statement M
+cut-slot-spec =
+    tie.close
+    (tie.spec
+    fix-requires
+    same-length
+    same-length-2
+    same-length-3
+    returns
+    strike-requires
+    same-length-4
+    same-length-5
+    same-length-6
+    returns-2)

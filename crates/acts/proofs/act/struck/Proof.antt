@@ -1,0 +1,79 @@
+-- `acts::act::struck` meets its contract. The invariant: `count` is how many strikes were passed. The measure is how many are left. One strike
+-- more: `struck-next`. Assumes nothing.
+use mathlib.Core.Path.{_≡_}
+use Prim.Native.Nat.{_-_, _≤_}
+use native.Mathlib.Omega.{arith}
+use borrow.Author.Needs.{needs}
+use Rattle.acts.proofs.StruckLaws.{struck-next}
+use Rattle.acts.proofs.act.struck.Statement.{statement}
+use Rattle.acts.proofs.act.struck.Tie as tie
+
+abbrev Inv-loop : tie.InvT-loop
+Inv-loop trail n from to count₀ i₀ count i = (from ≤ i) × (i ≤ to) × (count ≡ i - from)
+
+abbrev μ-loop : tie.MeasureT-loop
+μ-loop trail n from to count₀ i₀ count i = to - i
+
+loop-holds : tie.Need-loop-holds Inv-loop μ-loop
+loop-holds c =
+    (omega arith, omega (arith, c .before .pre .order), omega arith)
+
+value-at-requires : tie.Need-value-at-requires Inv-loop μ-loop
+value-at-requires c κs =
+    omega (arith, c .loop-test .taken, c .before .before .before .pre .upto)
+
+only-requires : tie.Need-only-requires Inv-loop μ-loop
+only-requires c κs =
+    let loop = c .before .before .loop in
+    omega (arith, c .value-at .ensures, c .before .before .before .before .pre .values-fit (loop .i) (loop .inv .0) (c .before .loop-test .taken))
+
+count-requires : tie.Need-count-requires Inv-loop μ-loop
+count-requires c κs =
+    search needs
+
+add-count : tie.Need-add-count Inv-loop μ-loop
+add-count c =
+    let loop = c .before .before .before .before .loop in
+    let pre = c .before .before .before .before .before .before .pre in
+    let only = c .before .only in
+    let next = struck-next (c .before .before .before .before .before .before .args .from) (loop .i) (loop .count) (only .result) (c .before .before .value-at .result) (c .count .result)
+    (loop .inv .0) (loop .inv .2) (only .ensures) (c .count .ensures) in
+    omega (arith, next, c .before .before .before .loop-test .taken, pre .upto, pre .heights-fit)
+
+add-i : tie.Need-add-i Inv-loop μ-loop
+add-i c =
+    let pre = c .before .before .before .before .before .before .pre in
+    omega (arith, c .before .before .before .loop-test .taken, pre .upto, pre .heights-fit)
+
+loop-less : tie.Need-loop-less Inv-loop μ-loop
+loop-less c =
+    omega (arith, c .before .before .before .loop-test .taken)
+
+loop-again : tie.Need-loop-again Inv-loop μ-loop
+loop-again c =
+    let loop = c .before .before .before .before .loop in
+    let only = c .before .only in
+    let next = struck-next (c .before .before .before .before .before .before .args .from) (loop .i) (loop .count) (only .result) (c .before .before .value-at .result) (c .count .result)
+    (loop .inv .0) (loop .inv .2) (only .ensures) (c .count .ensures) in
+    (omega (arith, loop .inv .0), omega (arith, c .before .before .before .loop-test .taken), next)
+
+returns : tie.Need-returns Inv-loop μ-loop
+returns c =
+    let last : c .before .loop .i ≡ c .before .before .before .args .to = omega (arith, c .loop-test .left, c .before .loop .inv .1) in
+    rw last at (c .before .loop .inv .2)
+
+pub struck-spec : {M : Type 1} → statement M
+struck-spec =
+    tie.close
+    (tie.spec
+    Inv-loop
+    μ-loop
+    loop-holds
+    value-at-requires
+    only-requires
+    count-requires
+    add-count
+    add-i
+    loop-less
+    loop-again
+    returns)

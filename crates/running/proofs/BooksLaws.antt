@@ -1,0 +1,246 @@
+-- The laws of `specs/BookRan.antt`: a session opened live (`opens-live`) or dead (`opens-dead`), a list run from there (`book-ran`), and what it
+-- says of the walls: after the list the right ends that the cells hold are the walls of document 01's formula, on the book's closed table and the
+-- machine's masks (`bookran-walls`). No contract cites this file. Assumes nothing.
+use mathlib.Core.Path.{_≡_, refl, sym, ap, _∙_, subst, subst⁻¹}
+use mathlib.Core.Bool.{Bool, true, false, not}
+use mathlib.Core.Logic.{_↔_}
+use mathlib.Core.List.{List, [], _∷_}
+use mathlib.Core.Option.{Option, none, some}
+use Prim.Native.Nat.{ℕ, suc, _≤_, _<_}
+use native.Mathlib.Omega.{arith}
+use lib.ListN.{length, getD, replicate}
+use Rattle.book.specs.Layout as Layout
+use Rattle.closing_model.specs.Table.{Table, view}
+use Rattle.settling_model.specs.Book.{closedBook, settledBook}
+use Rattle.settling_model.specs.Settling.{settling}
+use Rattle.settling_model.specs.Stable.{tableBounds}
+use Rattle.settling_model.proofs.BookLaws.{closedBook-loosest}
+use Rattle.settling_model.proofs.SettlingLaws.{settling-largest}
+use Rattle.segments_model.specs.Cells.{Stands}
+use Rattle.segments_model.specs.Lines.{cornerOf, slackOf}
+use Rattle.segments_model.specs.Links.{gaps}
+use Rattle.filter_model.specs.Mirror.{Mirror, cellsOf}
+use Rattle.filter.specs.declared.Outcome.{Outcome}
+use Rattle.filter.specs.declared.Outcome.the-variants as Outcomes
+use Rattle.settling.specs.State.{BookState, OpensBook}
+use Rattle.session_model.specs.BookRun.{rulesOf, stateAfter, repliesOf, standingAfter}
+use Rattle.session_model.specs.Calls as Calls
+use Rattle.session_model.specs.Calls.{Call, callsOf}
+use Rattle.session_model.specs.Machine.{opened, run, runs}
+use Rattle.session_model.specs.State as Machine
+use Rattle.session_model.specs.State.{Rules, State, Reply}
+use Rattle.session_model.specs.Standing as Model
+use Rattle.session_model.specs.Standing.{stand, standFrom}
+use Rattle.session_model.specs.Walls.{boundLine}
+use Rattle.session_model.proofs.BookRunLaws.{rulesOf-settle, rulesOf-closed, rulesOf-standing}
+use Rattle.session_model.proofs.DeadOpeningLaws.{dead-opening}
+use Rattle.session_model.proofs.DemandLaws.{demand3}
+use Rattle.session_model.proofs.RunLaws.{opened-live, opened-dead}
+use Rattle.running.specs.BookRan.{tableOf, bookTable, openedRules, openedState, opensLive, Openable, Opens, BookRan}
+use Rattle.acts.specs.Given.{standingOf, isShut}
+use Rattle.acts.specs.Represents.{Room, Working, Represents, Running}
+use Rattle.running.specs.Runs.{Runs}
+use Rattle.running.specs.declared.Ended.{Ended}
+use Rattle.acts.specs.declared.Session.{Session}
+use Rattle.acts.specs.declared.Standing.{Standing}
+use Rattle.acts.specs.declared.Standing.the-variants.{OpenedDead, Live, Dead}
+use Rattle.acts.proofs.CallLaws.{opened-working}
+use Rattle.acts.proofs.PileLaws.{pile-none}
+
+-- ---- bookTable
+bookTable-closed : (b L U : List ℕ) → closedBook b ≡ some (L, U) → bookTable b ≡ view L U
+unfolding bookTable
+bookTable-closed b L U closes = ap tableOf closes
+
+-- ---- Opens; the lengths are those at entry
+module _ {b m c t L U m′ c′ t′ : List ℕ} (openable : Openable b m c t L U) (masks-kept : length m′ ≡ length m) (cells-kept : length c′ ≡ length c)
+    (trail-kept : length t′ ≡ length t) where
+  opens-room : Room m′ c′ t′ (Layout.slots b) (Layout.values b)
+  opens-room =
+      let state = openable .state in
+      let fit = state .rises .book in
+      record {
+        masks-in = masks-kept ∙ state .masks-in;
+        rows = omega (arith, cells-kept, state .cells-in);
+        slots-fit = omega (arith, fit .slots-most);
+        values-fit = fit .values-most;
+        heights-fit = omega (arith, trail-kept, openable .heights-fit);
+      }
+
+  state-working : {L′ U′ : List ℕ} {h : ℕ} (heights : List ℕ) (limit : ℕ) → BookState b m′ c′ t′ L′ U′ h
+      → Working (bookTable b) (rulesOf b limit) [] m′ c′ t′ heights (Layout.slots b) (Layout.values b) h
+  state-working {h = h} heights limit state =
+      let n = Layout.slots b in
+      let k = Layout.values b in
+      let T = view (state .lowers) (state .uppers) in
+      let closes = state .closed in
+      let settles : settling (tableBounds n k T) (Layout.masks b) ≡ some m′ = sym (rulesOf-closed b limit (state .lowers) (state .uppers) closes (Layout.masks b))
+      ∙ rulesOf-settle b limit ∙ state .settled in
+      subst⁻¹ (λ (X : Table). Working X (rulesOf b limit) [] m′ c′ t′ heights n k h) (bookTable-closed b (state .lowers) (state .uppers) closes)
+      (record {
+        rules =
+            record {
+              closed = closedBook-loosest b (state .lowers) (state .uppers) closes .closed;
+              settle = rulesOf-closed b limit (state .lowers) (state .uppers) closes;
+              standing = rulesOf-standing b limit (state .lowers) (state .uppers) closes;
+            };
+        mirror = state .mirror;
+        base =
+            record {
+              size = opens-room .masks-in;
+              stable = settling-largest (tableBounds n k T) (Layout.masks b) m′ settles .stable;
+              values = state .world .values;
+              room = state .world .room;
+            };
+        pile = pile-none n k T t′ heights m′ c′ h;
+      })
+
+  at-opening : {session : Session} {o : Rules × State} (heights : List ℕ)
+      → o ≡ opened (rulesOf b (length heights)) (rulesOf b (length heights) .settle (Layout.masks b))
+      → Represents (bookTable b) (o .0) (o .1) m′ c′ t′ heights (Layout.slots b) (Layout.values b) session
+      → Represents (bookTable b) (openedRules b (length heights)) (openedState b (length heights)) m′ c′ t′ heights (Layout.slots b) (Layout.values b) session
+  at-opening {session} heights is represents =
+      subst (λ (o : Rules × State). Represents (bookTable b) (o .0) (o .1) m′ c′ t′ heights (Layout.slots b) (Layout.values b) session) is represents
+
+  live-represents : {L′ U′ : List ℕ} {h : ℕ} → BookState b m′ c′ t′ L′ U′ h → (heights : List ℕ)
+      → Represents (bookTable b) (openedRules b (length heights)) (openedState b (length heights)) m′ c′ t′ heights (Layout.slots b) (Layout.values b)
+      (record { standing = Live; top = h; marks = 0 })
+  live-represents state heights =
+      at-opening heights (sym (opened-live (rulesOf b (length heights)) (Layout.masks b) m′ (rulesOf-settle b (length heights) ∙ state .settled)))
+      (record {
+        room = opens-room;
+        suits = record { slots = refl; values = refl; limit = refl; ones = λ M. refl };
+        masks-are = refl;
+        flag = refl;
+        marks-are = refl;
+        marks-in = omega arith;
+        stands = state-working heights (length heights) state;
+      })
+
+  pub opens-live : (L′ U′ : List ℕ) {h : ℕ} (r : Outcome) → r ≡ Outcomes.Live h → OpensBook b m′ c′ t′ L′ U′ r
+      → Opens b m′ c′ t′ (record { standing = Live; top = h; marks = 0 })
+  opens-live L′ U′ {h} r is opens =
+      let state : BookState b m′ c′ t′ L′ U′ h = subst (λ (o : Outcome). OpensBook b m′ c′ t′ L′ U′ o) is opens in
+      record { represents = live-represents state; standing = rw (state .settled) refl }
+
+  dead-represents : settledBook b ≡ none → m′ ≡ replicate (length m) 0 → (heights : List ℕ)
+      → Represents (bookTable b) (openedRules b (length heights)) (openedState b (length heights)) m′ c′ t′ heights (Layout.slots b) (Layout.values b)
+      (record { standing = OpenedDead; top = 0; marks = 0 })
+  dead-represents dies cleared heights =
+      at-opening heights (sym (opened-dead (rulesOf b (length heights)) (Layout.masks b) (rulesOf-settle b (length heights) ∙ dies)))
+      (record {
+        room = opens-room;
+        suits = record { slots = refl; values = refl; limit = refl; ones = λ M. refl };
+        masks-are = sym (cleared ∙ ap (λ (n : ℕ). replicate n 0) (openable .state .masks-in));
+        flag = refl;
+        marks-are = refl;
+        marks-in = omega arith;
+        stands = record { saved-none = refl; standing = λ kind M v. refl };
+      })
+
+  pub opens-dead : (m₁ L′ U′ : List ℕ) {h : ℕ} (r : Outcome) → r ≡ Outcomes.Dead h → OpensBook b m₁ c′ t′ L′ U′ r → m′ ≡ replicate (length m) 0
+      → Opens b m′ c′ t′ (record { standing = OpenedDead; top = 0; marks = 0 })
+  opens-dead m₁ L′ U′ {h} r is opens cleared =
+      let dies : settledBook b ≡ none = subst (λ (o : Outcome). OpensBook b m₁ c′ t′ L′ U′ o) is opens in
+      record { represents = dead-represents dies cleared; standing = rw dies refl }
+
+-- ---- BookRan
+abbrev shutModel : Model.Standing → Bool
+shutModel Model.OpenedDead = true
+shutModel Model.Live = false
+shutModel (Model.Dead call) = false
+
+shut-model : (standing : Standing) → isShut standing ≡ shutModel (standingOf standing)
+shut-model OpenedDead = refl
+shut-model Live = refl
+shut-model (Dead call) = refl
+
+opening-live : (settled : Option (List ℕ)) → not (shutModel (Model.opening settled)) ≡ opensLive settled
+opening-live none = refl
+opening-live (some M) = refl
+
+-- the flag of the opening says whether the book opens live
+shut-live : (standing : Standing) (settled : Option (List ℕ)) → standingOf standing ≡ Model.opening settled → not (isShut standing) ≡ opensLive settled
+shut-live standing settled is = ap not (shut-model standing ∙ ap shutModel is) ∙ opening-live settled
+
+-- after a live opening no call makes it opened dead
+stand-opened : (St : Model.Standing) (i : ℕ) (c : Call) (r : Reply) → shutModel St ≡ false → shutModel (stand St i c r) ≡ false
+unfolding stand
+stand-opened St i c (Machine.live struck) opened = opened
+stand-opened St i c Machine.dead opened = refl
+stand-opened St i c (Machine.value x) opened = opened
+stand-opened St i (Calls.decide d) Machine.done opened = opened
+stand-opened St i Calls.mark Machine.done opened = opened
+stand-opened St i Calls.back Machine.done opened = refl
+stand-opened St i (Calls.show s) Machine.done opened = opened
+stand-opened St i (Calls.walls kind v) Machine.done opened = opened
+stand-opened St i Calls.unknown Machine.done opened = opened
+stand-opened St i c (Machine.refused x) opened = opened
+
+standFrom-opened : (St : Model.Standing) (i : ℕ) (cs : List Call) (rs : List Reply) → shutModel St ≡ false
+    → shutModel (standFrom St i cs rs) ≡ false
+unfolding standFrom
+standFrom-opened St i [] rs opened = opened
+standFrom-opened St i (c ∷ cs) [] opened = opened
+standFrom-opened St i (c ∷ cs) (r ∷ rs) opened = standFrom-opened (stand St i c r) (suc i) cs rs (stand-opened St i c r opened)
+
+run-opened : (b M : List ℕ) (limit : ℕ) (calls : List Call) (standing : Standing) → settledBook b ≡ some M
+    → standingOf standing ≡ standingAfter b limit calls → isShut standing ≡ false
+run-opened b M limit calls standing settles is =
+    shut-model standing ∙ ap shutModel is
+    ∙ standFrom-opened (Model.opening (settledBook b)) 0 calls (repliesOf b limit calls) (ap (λ (o : Option (List ℕ)). shutModel (Model.opening o)) settles)
+
+module _ {b m c t : List ℕ} {fresh : Session} (opens : Opens b m c t fresh) {n k : ℕ} (n-is : n ≡ Layout.slots b) (k-is : k ≡ Layout.values b)
+    (heights : List ℕ) where
+  opened-represents : Represents (bookTable b) (openedRules b (length heights)) (openedState b (length heights)) m c t heights n k fresh
+  opened-represents = rw (n-is, k-is) (opens .represents heights)
+
+  pub opened-running : Running m c t heights n k fresh
+  opened-running =
+      record { table = bookTable b; rules = openedRules b (length heights); state = openedState b (length heights); represents = opened-represents }
+
+  pub book-ran : (calls : List ℕ) {answers answers′ m′ c′ t′ h′ : List ℕ} {session : Session} (shut : Bool) → shut ≡ isShut (fresh .standing)
+      → Runs n k (callsOf calls) fresh m c t heights answers session m′ c′ t′ h′ answers′
+      → BookRan b calls (length heights) answers answers′ m′ c′ t′ h′ (record { session = session; live = not shut })
+  unfolding run
+  book-ran calls {m′ = m′} {c′} {t′} {h′} {session} shut shut-is ran =
+      let limit = length heights in
+      let done = ran .does (bookTable b) (openedRules b limit) (openedState b limit) opened-represents in
+      let represents : Represents (bookTable b) (openedRules b limit) (stateAfter b limit (callsOf calls)) m′ c′ t′ h′ (Layout.slots b) (Layout.values b)
+      session = rw (n-is, k-is) at (done .represents) in
+      let standing : standingOf (session .standing) ≡ standingAfter b limit (callsOf calls) = done .standing
+      ∙ ap (λ (s : Model.Standing).
+      Model.standFrom s 0 (callsOf calls) (runs (openedRules b limit) (openedState b limit) (callsOf calls) .1)) (opens .standing) in
+      record {
+        live = ap not shut-is ∙ shut-live (fresh .standing) (settledBook b) (opens .standing);
+        represents = represents;
+        mirror = λ L U M closes settles.
+            subst (λ (T : Table). Mirror (Layout.slots b) (Layout.values b) T m′ c′) (bookTable-closed b L U closes)
+            (opened-working represents (run-opened b M limit (callsOf calls) (session .standing) settles standing) .mirror);
+        words = done .words;
+        standing = standing;
+        demand = λ M settles. demand3 b limit M settles (callsOf calls);
+        opened-dead = λ dies. dead-opening b limit dies (callsOf calls);
+      }
+
+-- ---- the walls
+-- t is a wall of the formula: Stands, for the corners and the slack of the value's line on the masks M
+abbrev pub Wall : Bool → ℕ → Table → List ℕ → ℕ → ℕ → Type 0
+Wall kind n T M v t = Stands n (cornerOf kind n (boundLine kind n T v)) (slackOf kind (boundLine kind n T v) M v) t
+
+mirror-walls : {n k : ℕ} {T : Table} {M cells : List ℕ} → Mirror n k T M cells → (kind : Bool) (v t : ℕ) → v < k → 0 < t → t ≤ n
+    → (0 < getD (gaps (cellsOf kind n k v cells)) t 0) ↔ Wall kind n T M v t
+mirror-walls mirror true v t v<k from upto =
+    let cells = mirror .rows true v v<k .held .cells in
+    (cells .stands t from upto, cells .held t from upto)
+mirror-walls mirror false v t v<k from upto =
+    let cells = mirror .rows false v v<k .held .cells in
+    (cells .stands t from upto, cells .held t from upto)
+
+pub bookran-walls : {b calls : List ℕ} {limit : ℕ} {answers answers′ masks cells trail heights : List ℕ} {r : Ended}
+    → BookRan b calls limit answers answers′ masks cells trail heights r → (L U M : List ℕ) → closedBook b ≡ some (L, U) → settledBook b ≡ some M
+    → (kind : Bool) (v t : ℕ) → v < Layout.values b → 0 < t → t ≤ Layout.slots b
+    → (0 < getD (gaps (cellsOf kind (Layout.slots b) (Layout.values b) v cells)) t 0)
+    ↔ Wall kind (Layout.slots b) (view L U) (stateAfter b limit (callsOf calls) .masks) v t
+bookran-walls ran L U M closes settles kind v t v<k from upto =
+    rw (ran .represents .masks-are) (mirror-walls (ran .mirror L U M closes settles) kind v t v<k from upto)

@@ -1,0 +1,2 @@
+mod BooksLaws
+mod RunsLaws

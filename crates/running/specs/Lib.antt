@@ -1,0 +1,2 @@
+pub mod BookRan
+pub mod Runs
