@@ -1,5 +1,5 @@
 // The four entries at document 01's limits, typed, for callers written in Rattle. No entry has a premise: every slice of every length gets an
-// answer. The contracts cite the definitions of the entries with limits, at nested_gcc's `fullLimits`.
+// answer. The contracts cite the definitions of the entries with limits, at entries_model's `fullLimits`.
 use answer::Answer;
 use book::Limits;
 use book::Verdict;
@@ -10,7 +10,7 @@ ghost use Rattle.book.specs.Refusal.{refusal, numberOf};
 ghost use Rattle.closing.specs.Close.{Closes, closeOf};
 ghost use Rattle.settling.specs.Settle.{Settles, settleOf};
 ghost use Rattle.session.specs.Entry.{SessionRan, sessionOf};
-ghost use Rattle.nested_gcc.specs.Entries.{fullLimits};
+ghost use Rattle.entries_model.specs.Entries.{fullLimits};
 
 // Whether book is a good book, or why not.
 pub fn check(book: &[u8]) -> Verdict

@@ -1,3 +1,0 @@
-pub mod CheckLaws
-mod CloseBytesLaws
-mod SessionBytesLaws

@@ -1,36 +1,15 @@
 // The exported entries: thin forms over bytes, for a host written in C or Rust. A slice crosses as a pointer and a length. No entry has a
 // premise: each takes every slice of every length, and answers 0 (live; of check: a good book), 1 (dead) or 256 + the number of a refusal.
-// The contracts cite `specs/Entries.antt`.
-mod bytes; // bytes.rt: the entries that write, from bytes to bytes
-mod sessions; // sessions.rt: a session from bytes to bytes
-mod settle; // settle.rt: settling from bytes to bytes
-
-use answer::Answer;
-use answer::word;
-use book::Limits;
-use book::number;
-use book::read;
-use bytes::close_bytes;
-use sessions::session_bytes;
-use settle::settle_bytes;
+// The contracts cite entries_model's `specs/Entries.antt`.
 ghost use mathlib.Core.Path.{_≡_};
-ghost use Rattle.nested_gcc.specs.Entries.{checkAnswer, CloseEntry, SettleEntry, SessionEntry};
+ghost use Rattle.entries_model.specs.Entries.{checkAnswer, CloseEntry, SettleEntry, SessionEntry};
 
 // Whether book is a good book. Writes nothing, and never answers dead.
 #[no_mangle]
 pub extern "C" fn nested_gcc_check(book: &[u8]) -> u32
     ensures { λ r. ⌜ r ≡ checkAnswer (now (book .entry)) ⌝ }
 {
-    let limits = Limits {
-        slots: 256,
-        values: 32,
-        rows: 1024,
-    };
-    let number = number(read(book, limits));
-    if number == 0 {
-        return word(Answer::Live);
-    }
-    word(Answer::Refused(number as u8))
+    check_bytes::check(book)
 }
 
 // Closes the table of book: lowers, then uppers, value by value, 16 bits each.
@@ -38,7 +17,7 @@ pub extern "C" fn nested_gcc_check(book: &[u8]) -> u32
 pub extern "C" fn nested_gcc_close(book: &[u8], lowers: &mut [u8], uppers: &mut [u8]) -> u32
     ensures { λ r. ⌜ CloseEntry (now (book .entry)) (now (lowers .entry)) (now (uppers .entry)) r (now (lowers .exit)) (now (uppers .exit)) ⌝ }
 {
-    close_bytes(book, lowers, uppers)
+    close_bytes::close(book, lowers, uppers)
 }
 
 // Settles the masks of book, 32 bits each.
@@ -46,7 +25,7 @@ pub extern "C" fn nested_gcc_close(book: &[u8], lowers: &mut [u8], uppers: &mut 
 pub extern "C" fn nested_gcc_settle(book: &[u8], masks: &mut [u8]) -> u32
     ensures { λ r. ⌜ SettleEntry (now (book .entry)) (now (masks .entry)) r (now (masks .exit)) ⌝ }
 {
-    settle_bytes(book, masks)
+    settle_bytes::settle(book, masks)
 }
 
 // Runs a call list on a session of book: two words a call, and the last masks, 32 bits each.
@@ -59,5 +38,5 @@ pub extern "C" fn nested_gcc_session(
 ) -> u32
     ensures { λ r. ⌜ SessionEntry (now (book .entry)) (now (calls .entry)) (now (answers .entry)) (now (masks .entry)) r (now (answers .exit)) (now (masks .exit)) ⌝ }
 {
-    session_bytes(book, calls, answers, masks)
+    session_bytes::session(book, calls, answers, masks)
 }

@@ -1,0 +1,39 @@
+-- What the exported entries promise, from bytes to bytes (document 01, 'Entries and their numbers').
+--   fullLimits        document 01's limits: 256 slots, 32 types, 1024 rows
+--   answered number   0 where no number refuses, else 256 + the number
+--   checkAnswer b     what check answers for the bytes b: 0 for a good book
+--   CloseEntry b L U r L′ U′   of book b and the outputs L and U as they are lent: r is what close answers, and L′ and U′ are the outputs as they
+--                     come back; elements are 16 bits, little-endian, and a trailing byte neither counts nor is written
+--   SettleEntry b M r M′   of book b and the output M as it is lent: r is what settle answers, and M′ is the output as it comes back; masks are
+--                     32 bits, little-endian, and up to three trailing bytes neither count nor are written
+--   SessionEntry b calls A M r A′ M′   of book b, a call list and the outputs A and M as they are lent: r is what session answers, and A′ and M′
+--                     are the outputs as they come back; words and masks are 32 bits, little-endian
+-- Assumes nothing.
+use mathlib.Core.List.{List}
+use Prim.Native.Nat.{ℕ, zero, suc, _+_}
+use lib.ListN.{length}
+use Rattle.book.specs.declared.Limits.{Limits}
+use Rattle.book.specs.Refusal.{refusal}
+use Rattle.elements.specs.Elements.{bytesOf, whole}
+use Rattle.closing.specs.Close.{Closes, closeOf}
+use Rattle.settling.specs.Settle.{Settles, settleOf}
+use Rattle.session.specs.Entry.{sessionOf, SessionRan}
+
+abbrev pub fullLimits : Limits
+fullLimits = record { slots = 256; values = 32; rows = 1024 }
+
+abbrev pub answered : ℕ → ℕ
+answered zero = 0
+answered (suc x) = 256 + suc x
+
+abbrev pub checkAnswer : List ℕ → ℕ
+checkAnswer b = answered (refusal fullLimits b)
+
+abbrev pub CloseEntry : List ℕ → List ℕ → List ℕ → ℕ → List ℕ → List ℕ → Type 0
+CloseEntry b L U r L′ U′ = Closes (bytesOf 2) (closeOf fullLimits b (whole 2 (length L)) (whole 2 (length U))) r L U L′ U′
+
+abbrev pub SettleEntry : List ℕ → List ℕ → ℕ → List ℕ → Type 0
+SettleEntry b M r M′ = Settles (bytesOf 4) (settleOf fullLimits b (whole 4 (length M))) r M M′
+
+abbrev pub SessionEntry : List ℕ → List ℕ → List ℕ → List ℕ → ℕ → List ℕ → List ℕ → Type 0
+SessionEntry b calls A M r A′ M′ = SessionRan (bytesOf 4) (sessionOf fullLimits b calls (whole 4 (length A)) (whole 4 (length M))) r A M A′ M′
