@@ -2,7 +2,7 @@
 """Checks docs/PROMISES.md against the repository; exit 1 where something does not hold.
 
 - Every backticked file and edit exists. `CRATE/must-fail/X` is the edit crates/CRATE/must-fail/X.edit; other paths start at the root or at crates/.
-- Every backticked name is found as a whole word: names before a file in that file, names with no file after them somewhere under crates/.
+- Every backticked name is defined: names before a file in that file, names with no file after them somewhere under crates/ or in a library.
 - Each row of a table of clauses has five filled cells, its third cell only keys, two wrong programs, and an edit or the words 'no edit:'.
 - The files of a key are just those that its names rest on: the definitions that they reach, name by name, through the specs/ folders.
 """
@@ -30,21 +30,52 @@ def texts():
     return {f: f.read_text() for f in files if f.suffix in ('.rt', '.antt')}
 
 
-def holds(text, name):
-    return re.search(f'(?<!{WORD}){re.escape(name)}(?!{WORD})', text) is not None
+def defined_in_rt(source):
+    """Functions, structs, enums and constants, and the labels of loops."""
+    code = re.sub(r'//.*', '', source)
+    return set(re.findall(r'\b(?:fn|struct|enum|const)\s+(\w+)', code)) | set(re.findall(r"'(\w+):\s*(?:loop|while|for)\b", code))
+
+
+def defined_in_antt(source):
+    """Records, data types and whatever has a line `NAME :` or `NAME NAME :`, at the margin or in a record, a data type or a module."""
+    names, within = set(), False
+    for line in source.splitlines():
+        code = re.sub(r'(?:^|\s)--.*', '', line)
+        words = re.sub(r'^(?:(?:abbrev|unfoldable|pub)\s+)*', '', code.strip())
+        block = re.match(r'(?:record|data|module)\s+(\S+)', words)
+        if words and not code.startswith(' '):
+            within = block is not None
+        typed = re.match(r'((?:[^\s(){}\[\]:=→|]+\s+)+):(?:\s|$)', words)
+        if block:
+            names.add(block[1])
+        elif typed and (within or not code.startswith(' ')):
+            names.update(typed[1].split())
+    return names
+
+
+class Defined:
+    """The names that each file defines, and those that some file takes from a library."""
+
+    def __init__(self, sources):
+        self.of = {f: (defined_in_rt if f.suffix == '.rt' else defined_in_antt)(source) for f, source in sources.items()}
+        uses = [use for source in sources.values() for use in re.findall(r'^use (?!Rattle·)\S+\.\{(.*)\}', source, re.MULTILINE)]
+        self.library = {name.strip() for use in uses for name in use.split(',')}
+
+    def anywhere(self, name):
+        return name in self.library or f'_{name}_' in self.library or any(name in names for names in self.of.values())
 
 
 def file_of(token):
     """The file that a token names, or None where it names no file."""
     if re.fullmatch(r'\w+/must-fail/\w+', token):
         return CRATES / f'{token}.edit'
-    if '/' in token:
+    if '/' in token or (ROOT / token).is_file():
         return next((base / token for base in (ROOT, CRATES) if (base / token).exists()), ROOT / token)
     return None
 
 
-def check_tokens(number, text, sources):
-    """Names wait for the file after them; those that none follows are looked for everywhere."""
+def check_tokens(number, text, defined):
+    """Names wait for the next file of crates/ that may define them; those that none follows are looked for everywhere."""
     waiting = []
     for token in re.findall(r'`([^`]+)`', text):
         file = file_of(token)
@@ -53,14 +84,15 @@ def check_tokens(number, text, sources):
             continue
         if not file.exists():
             fault(number, f'there is no {token}')
-        elif file in sources:
-            for name in waiting:
-                if not holds(sources[file], name):
-                    fault(number, f'{name} is not in {token}')
+        if file not in defined.of:
+            continue
+        for name in waiting:
+            if name not in defined.of[file]:
+                fault(number, f'{name} is not defined in {token}')
         waiting = []
     for name in waiting:
-        if not any(holds(source, name) for source in sources.values()):
-            fault(number, f'{name} is nowhere under crates/')
+        if not defined.anywhere(name):
+            fault(number, f'{name} is defined nowhere under crates/ nor taken from a library')
 
 
 # ---- what a definition rests on
@@ -162,7 +194,7 @@ def check_row(number, cells, keys):
 
 def main():
     sources = texts()
-    specs = Specs(sources)
+    defined, specs = Defined(sources), Specs(sources)
     lines = PAGE.read_text().splitlines()
     keys, rows, clauses = {}, 0, False
     for number, line in enumerate(lines, 1):
@@ -170,7 +202,7 @@ def main():
             check_key(number, line, specs, keys)
         cells = [cell.strip() for cell in line.strip('|').split('|')] if line.startswith('|') else None
         for text in cells or line.split('):' if line.startswith('- **') else '\n'):
-            check_tokens(number, text, sources)
+            check_tokens(number, text, defined)
         if not cells:
             clauses = False
         elif cells[0] == 'Clause':
