@@ -1,0 +1,525 @@
+/*
+ * Times nested_gcc_session against contenders of a comparison bench, on the bench's books and call scripts, and
+ * prints a table in markdown; tools/compare builds and runs it. The bench's sources are no part of this repository.
+ *
+ *     compare all-in FOLDER NAME..    against the hand-written engines walls and budget
+ *     compare kinds FOLDER NAME..     against walls: what the kinds of calls take
+ *     compare gecode FOLDER NAME..    against models in Gecode, in the program built with -DGECODE
+ *     compare wrong FOLDER NAME..     no table: status 0 if every contender is found to answer other than expected
+ *
+ * An instance is three files: NAME.book, NAME.calls, and NAME.exp with what is expected: two words a call, then the
+ * last masks. A contender that writes anything else ends the program with status 1, and no table is printed. A model
+ * in Gecode has no answers to write: of each decision it is compared whether it is live and how many types it
+ * strikes, and then the last masks.
+ *
+ * - The contenders take turns, another one first in each round. A figure of a round is the processor time of this
+ *   thread for as many runs as take a millisecond or more, over their number; so caches and branch predictors know the
+ *   script. There are 15 rounds or more, as many as fit into two seconds. A figure of a table is a median over the
+ *   rounds, a ratio one of medians.
+ * - An opening is a run with no calls. For the engines and models it has the reading of the book in it.
+ * - All-in is the time of a run of the whole script less that of an opening, over the script's decisions (assign and
+ *   remove): all that is called between decisions is in it. The engines and models are handed the calls as structs,
+ *   the session as bytes.
+ * - By kind: each descent of the script (from no open mark to the back of the last) is run as a script of its own. A
+ *   back is one of the row of backs that ends a descent: the time of the descent less that of the descent cut before
+ *   the row, over the row's backs. A decision is the time of the cut descent less that of an opening, over its
+ *   decisions: its mark is in it, and the backs out of dead ends. Both are summed over the descents. A mark and a
+ *   back: those of a list of 256 marks and 256 backs in turn. No clock is read within a session. These figures add up
+ *   to less than all-in, since a short script that is run again and again takes less for each call than a long one.
+ */
+#ifdef GECODE
+#define main gecode_replay_main
+#include "gecode_replay.cpp"
+#undef main
+#else
+#include "engines.hpp"
+#endif
+#include "nested_gcc.h"
+#include <cmath>
+#include <cstdarg>
+
+namespace compare {
+
+using Bytes = std::vector<u8>;
+using Times = std::vector<double>;
+
+const size_t ROUNDS = 15;
+const double ROUNDS_NS = 2e9;
+const double FIGURE_NS = 1e6;
+
+[[noreturn]] void fail(const char *format, ...) {
+    va_list arguments;
+    va_start(arguments, format);
+    fputs("compare: ", stderr);
+    vfprintf(stderr, format, arguments);
+    fputc('\n', stderr);
+    va_end(arguments);
+    exit(1);
+}
+
+/* ---- instances ---- */
+
+struct Instance {
+    std::string name;
+    Bytes book, calls, expected;
+    std::vector<Call> script;
+    size_t slots;
+
+    Instance(const std::string &folder, const std::string &called) : name(called) {
+        book = slurp(folder + "/" + name + ".book");
+        calls = slurp(folder + "/" + name + ".calls");
+        expected = slurp(folder + "/" + name + ".exp");
+        script = read_calls(calls);
+        slots = book.size() < 12 ? 0 : g16(book.data());
+        bool whole = calls.size() == 4 * script.size() && expected.size() == 8 * script.size() + 4 * slots;
+        if (slots == 0 || !whole || decisions() == 0) fail("%s: no instance", name.c_str());
+    }
+
+    size_t decisions() const {
+        return std::count_if(script.begin(), script.end(), [](Call call) { return call.kind <= REMOVE; });
+    }
+    Ans answer(size_t call) const { return { g32(&expected[8 * call]), g32(&expected[8 * call + 4]) }; }
+    u32 last_mask(size_t slot) const { return g32(&expected[8 * script.size() + 4 * slot]); }
+};
+
+/* ---- contenders ---- */
+
+struct Contender {
+    const Instance &in;
+    explicit Contender(const Instance &instance) : in(instance) {}
+    virtual ~Contender() {}
+    virtual const char *name() const = 0;
+    /* Opens the book and makes the first `calls` calls. */
+    virtual void run(size_t calls) = 0;
+    /* Whether a run of the whole script is as expected. */
+    virtual bool right() = 0;
+    /* Gives up what the last run holds. No clock runs meanwhile. */
+    virtual void rest() {}
+};
+
+using Contenders = std::vector<std::unique_ptr<Contender>>;
+
+struct Proved : Contender {
+    Bytes answers, masks;
+    explicit Proved(const Instance &instance)
+        : Contender(instance), answers(2 * in.calls.size()), masks(4 * in.slots) {}
+    const char *name() const override { return "proved"; }
+    void run(size_t calls) override {
+        u32 opened = nested_gcc_session(in.book.data(), in.book.size(), in.calls.data(), 4 * calls, answers.data(),
+                                        answers.size(), masks.data(), masks.size());
+        if (opened != NESTED_GCC_LIVE) fail("%s: the session answers %u", in.name.c_str(), opened);
+    }
+    bool right() override {
+        std::fill(answers.begin(), answers.end(), 0xa5);
+        std::fill(masks.begin(), masks.end(), 0xa5);
+        run(in.script.size());
+        return std::equal(answers.begin(), answers.end(), in.expected.begin()) &&
+               std::equal(masks.begin(), masks.end(), in.expected.begin() + answers.size());
+    }
+};
+
+template <class Engine> struct Plain : Contender {
+    std::unique_ptr<Engine> engine = std::make_unique<Engine>();
+    std::vector<Ans> answers;
+    explicit Plain(const Instance &instance) : Contender(instance), answers(in.script.size()) {}
+    const char *name() const override { return Engine::name; }
+    void run(size_t calls) override {
+        Book book;
+        if (read_book(in.book.data(), in.book.size(), book) || !engine->open(book))
+            fail("%s: %s does not open", in.name.c_str(), name());
+        run_calls(*engine, in.script.data(), calls, answers.data());
+    }
+    bool right() override {
+        std::fill(answers.begin(), answers.end(), Ans{ ~0u, ~0u });
+        run(in.script.size());
+        for (size_t call = 0; call < answers.size(); call++) {
+            if (!(answers[call] == in.answer(call))) return false;
+        }
+        for (size_t slot = 0; slot < in.slots; slot++) {
+            if (engine->show(slot) != in.last_mask(slot)) return false;
+        }
+        return true;
+    }
+};
+
+#ifdef GECODE
+
+struct Model : Contender {
+    const char *called;
+    Opt options;
+    Player player;
+    Model(const Instance &instance, const char *model, int clone_distance) : Contender(instance), called(model) {
+        options.model = model;
+        options.cd = clone_distance;
+    }
+    const char *name() const override { return called; }
+    void open() {
+        Book book;
+        opt = options;
+        if (read_book(in.book.data(), in.book.size(), book) || !player.open(book))
+            fail("%s: %s does not open", in.name.c_str(), called);
+    }
+    void run(size_t calls) override {
+        open();
+        for (size_t call = 0; call < calls; call++) player.call(in.script[call]);
+    }
+    void rest() override { player.clear(); }
+    u32 ones() {
+        u32 sum = 0;
+        for (size_t slot = 0; slot < in.slots; slot++) sum += player.cur->x[slot].size();
+        return sum;
+    }
+    void settle() {
+        player.fresh();
+        player.cur->status();
+    }
+    /* Makes one call; whether a decision is answered as expected. */
+    bool decided(size_t call) {
+        if (in.script[call].kind > REMOVE) return player.call(in.script[call]) == 0;
+        if (player.dead) return false;
+        settle();
+        u32 before = ones();
+        if (player.call(in.script[call]) != 0) return in.answer(call) == Ans{ NESTED_GCC_CALL_DEAD, 0 };
+        return in.answer(call) == Ans{ NESTED_GCC_CALL_LIVE, before - ones() };
+    }
+    bool right() override {
+        open();
+        for (size_t call = 0; call < in.script.size(); call++) {
+            if (!decided(call)) return false;
+        }
+        if (player.dead) return false;
+        settle();
+        for (size_t slot = 0; slot < in.slots; slot++) {
+            if (player.cur->dom(slot) != in.last_mask(slot)) return false;
+        }
+        return true;
+    }
+};
+
+#endif
+
+/* The session, and what it is timed against. */
+Contenders contenders_of(const Instance &instance) {
+    Contenders contenders;
+    contenders.push_back(std::make_unique<Proved>(instance));
+#ifdef GECODE
+    contenders.push_back(std::make_unique<Model>(instance, "nested", 8));
+    contenders.push_back(std::make_unique<Model>(instance, "count", 1));
+    contenders.push_back(std::make_unique<Model>(instance, "count", 8));
+#else
+    contenders.push_back(std::make_unique<Plain<Walls>>(instance));
+    contenders.push_back(std::make_unique<Plain<Budget>>(instance));
+#endif
+    return contenders;
+}
+
+void check(Contender &contender) {
+    if (!contender.right()) fail("%s: %s does not answer as expected", contender.in.name.c_str(), contender.name());
+}
+
+/* For instances that expect what is wrong. */
+void find_out(const std::vector<Instance> &instances) {
+    for (auto &instance : instances) {
+        for (auto &contender : contenders_of(instance)) {
+            if (contender->right())
+                fail("%s: %s passes, though it is not as expected", instance.name.c_str(), contender->name());
+        }
+    }
+}
+
+/* ---- times ---- */
+
+double time_of(Contender &contender, size_t calls, size_t runs) {
+    contender.rest();
+    double begin = cpu_ns();
+    for (size_t i = 0; i < runs; i++) contender.run(calls);
+    return (cpu_ns() - begin) / runs;
+}
+
+/* How many runs take as long as a figure must. */
+size_t runs_of(Contender &contender, size_t calls) {
+    size_t runs = 1;
+    while (time_of(contender, calls, runs) * runs < FIGURE_NS) runs *= 2;
+    return runs;
+}
+
+/* A quarter of the times lies below the first quartile, half of them below the second, the median. */
+double quartile(Times times, int which) {
+    std::sort(times.begin(), times.end());
+    return times[(times.size() - 1) * which / 4];
+}
+
+double middle(const Times &times) { return quartile(times, 2); }
+
+/* How far apart the first and the third quartile are, over the median. */
+double spread(const Times &times) { return (quartile(times, 3) - quartile(times, 1)) / middle(times); }
+
+/* The figures of a contender's rounds, in nanoseconds. */
+struct Figures {
+    size_t opening_runs, whole_runs;
+    Times opening, all_in;
+    explicit Figures(Contender &contender)
+        : opening_runs(runs_of(contender, 0)), whole_runs(runs_of(contender, contender.in.script.size())) {}
+    void round(Contender &contender) {
+        opening.push_back(time_of(contender, 0, opening_runs));
+        double whole = time_of(contender, contender.in.script.size(), whole_runs);
+        all_in.push_back((whole - opening.back()) / contender.in.decisions());
+    }
+};
+
+std::vector<Figures> take_turns(Contenders &contenders) {
+    std::vector<Figures> figures;
+    for (auto &contender : contenders) {
+        check(*contender);
+        figures.emplace_back(*contender);
+    }
+    double begin = cpu_ns();
+    for (size_t round = 0; round < ROUNDS || cpu_ns() - begin < ROUNDS_NS; round++) {
+        for (size_t turn = 0; turn < contenders.size(); turn++) {
+            size_t at = (round + turn) % contenders.size();
+            figures[at].round(*contenders[at]);
+        }
+    }
+    for (auto &contender : contenders) check(*contender);
+    return figures;
+}
+
+/* ---- tables ---- */
+
+/* The ratios of a column: their geometric mean and the greatest. */
+struct Column {
+    double logs = 0, greatest = 0;
+    size_t count = 0;
+    double add(double ratio) {
+        logs += std::log(ratio);
+        greatest = std::max(greatest, ratio);
+        count++;
+        return ratio;
+    }
+    double mean() const { return std::exp(logs / count); }
+};
+
+/* A table is printed when its last row is there; below it stands how far the rounds were apart. */
+struct Rows {
+    std::string text;
+    double widest = 0;
+    void add(const char *format, ...) __attribute__((format(printf, 2, 3))) {
+        char line[512];
+        va_list arguments;
+        va_start(arguments, format);
+        vsnprintf(line, sizeof line, format, arguments);
+        va_end(arguments);
+        text += line;
+    }
+    void taken_from(const Times &times) { widest = std::max(widest, spread(times)); }
+    void print() const {
+        const char *below = "First and third quartile of the rounds are apart by at most";
+        printf("%s\n%s %.0f%% of the median, over all figures of the table.\n", text.c_str(), below, 100 * widest);
+    }
+};
+
+#ifdef GECODE
+
+void gecode_table(const std::vector<Instance> &instances) {
+    Rows rows;
+    Column nested, count, count_by_8;
+    rows.add("| Instance | nested, clone each 8th mark | count, clone each mark | count, clone each 8th mark | proved "
+             "all-in, ns |\n|---|---|---|---|---|\n");
+    for (auto &instance : instances) {
+        fprintf(stderr, "compare: %s, Gecode\n", instance.name.c_str());
+        Contenders contenders = contenders_of(instance);
+        auto figures = take_turns(contenders);
+        double proved = middle(figures[0].all_in);
+        double ratios[3];
+        for (int model = 0; model < 3; model++) ratios[model] = middle(figures[model + 1].all_in) / proved;
+        rows.add("| %s | %.1f | %.1f | %.1f | %.0f |\n", instance.name.c_str(), nested.add(ratios[0]),
+                 count.add(ratios[1]), count_by_8.add(ratios[2]), proved);
+        for (auto &figure : figures) rows.taken_from(figure.all_in);
+    }
+    rows.add("| geometric mean | %.1f | %.1f | %.1f | |\n", nested.mean(), count.mean(), count_by_8.mean());
+    rows.print();
+}
+
+#else
+
+void all_in_table(const std::vector<Instance> &instances) {
+    Rows rows;
+    Column walls, budget, opening;
+    rows.add("| Instance | all-in / walls | all-in / budget | opening / walls | proved all-in, ns | proved opening, us "
+             "| rounds |\n|---|---|---|---|---|---|---|\n");
+    for (auto &instance : instances) {
+        fprintf(stderr, "compare: %s\n", instance.name.c_str());
+        Contenders contenders = contenders_of(instance);
+        auto figures = take_turns(contenders);
+        double proved = middle(figures[0].all_in), opened = middle(figures[0].opening);
+        rows.add("| %s | %.2f | %.2f | %.2f | %.0f | %.1f | %zu |\n", instance.name.c_str(),
+                 walls.add(proved / middle(figures[1].all_in)), budget.add(proved / middle(figures[2].all_in)),
+                 opening.add(opened / middle(figures[1].opening)), proved, opened / 1e3, figures[0].all_in.size());
+        for (auto &figure : figures) {
+            rows.taken_from(figure.all_in);
+            rows.taken_from(figure.opening);
+        }
+    }
+    rows.add("| geometric mean | %.2f | %.2f | %.2f | | | |\n", walls.mean(), budget.mean(), opening.mean());
+    rows.add("| worst | %.2f | %.2f | %.2f | | | |\n", walls.greatest, budget.greatest, opening.greatest);
+    rows.print();
+}
+
+/* The masks that a book opens with. */
+Bytes opening_masks(const Instance &instance) {
+    Bytes masks(4 * instance.slots);
+    nested_gcc_settle(instance.book.data(), instance.book.size(), masks.data(), masks.size());
+    return masks;
+}
+
+/* The calls from `begin` to `end` of a script, as a script of their own; no mark is open before or after them. */
+Instance part_of(const Instance &instance, size_t begin, size_t end) {
+    Instance part = instance;
+    part.script = read_calls(part.calls = Bytes(&instance.calls[4 * begin], instance.calls.data() + 4 * end));
+    part.expected = Bytes(&instance.expected[8 * begin], &instance.expected[8 * end]);
+    Bytes masks = opening_masks(instance);
+    part.expected.insert(part.expected.end(), masks.begin(), masks.end());
+    return part;
+}
+
+/* The script's descents: from where no mark is open to the back of the last mark that is. */
+std::vector<Instance> descents_of(const Instance &instance) {
+    std::vector<Instance> descents;
+    size_t begin = 0, open = 0;
+    for (size_t call = 0; call < instance.script.size(); call++) {
+        u8 kind = instance.script[call].kind;
+        if (open == 0 && (kind <= REMOVE || kind == BACK))
+            fail("%s: call %zu with no open mark", instance.name.c_str(), call);
+        if (kind == MARK) open++;
+        if (kind != BACK || --open > 0) continue;
+        descents.push_back(part_of(instance, begin, call + 1));
+        begin = call + 1;
+    }
+    if (descents.empty()) fail("%s: no descent", instance.name.c_str());
+    return descents;
+}
+
+/* The same book with 256 marks and 256 backs in turn, till the list is full. */
+Instance marks_alone(const Instance &instance) {
+    Instance marks = instance;
+    marks.calls.clear();
+    marks.expected.clear();
+    for (size_t call = 0; call < NESTED_GCC_CALLS_BYTES / 4; call++) {
+        p32(marks.calls, call / MAXMARK % 2 ? NESTED_GCC_BACK : NESTED_GCC_MARK);
+        p32(marks.expected, NESTED_GCC_CALL_DONE);
+        p32(marks.expected, 0);
+    }
+    marks.script = read_calls(marks.calls);
+    Bytes masks = opening_masks(instance);
+    marks.expected.insert(marks.expected.end(), masks.begin(), masks.end());
+    return marks;
+}
+
+/* A script cut after its first calls. */
+struct Cut {
+    Contender &contender;
+    size_t calls, runs;
+    Cut(Contender &cut, size_t first) : contender(cut), calls(first), runs(runs_of(cut, first)) {}
+    double time() const { return time_of(contender, calls, runs); }
+};
+
+/* How many calls a script has before the row of backs that ends it. */
+size_t bottom_of(const std::vector<Call> &script) {
+    auto other = std::find_if(script.rbegin(), script.rend(), [](Call call) { return call.kind != BACK; });
+    return script.rend() - other;
+}
+
+struct Descent {
+    Cut opening, down, whole;
+    explicit Descent(Contender &contender)
+        : opening(contender, 0), down(contender, bottom_of(contender.in.script)),
+          whole(contender, contender.in.script.size()) {}
+};
+
+/* What the kinds of calls take a contender; the figures of the rounds, in nanoseconds. */
+struct Kinds {
+    Contenders contenders;
+    std::vector<Descent> descents;
+    Cut marks_opening, marks;
+    size_t decisions = 0, backs = 0;
+    Times decision, back, mark_and_back;
+
+    /* The last contender has the marks alone. */
+    explicit Kinds(Contenders descents_and_marks)
+        : contenders(std::move(descents_and_marks)), marks_opening(*contenders.back(), 0),
+          marks(*contenders.back(), contenders.back()->in.script.size()) {
+        for (auto &contender : contenders) check(*contender);
+        for (size_t i = 0; i + 1 < contenders.size(); i++) {
+            descents.emplace_back(*contenders[i]);
+            decisions += contenders[i]->in.decisions();
+            backs += descents[i].whole.calls - descents[i].down.calls;
+        }
+    }
+    void round() {
+        double down = 0, up = 0;
+        for (auto &descent : descents) {
+            double bottom = descent.down.time();
+            down += bottom - descent.opening.time();
+            up += descent.whole.time() - bottom;
+        }
+        decision.push_back(down / decisions);
+        back.push_back(up / backs);
+        mark_and_back.push_back((marks.time() - marks_opening.time()) / (marks.calls / 2));
+    }
+};
+
+template <class C> Kinds kinds_of(const std::vector<Instance> &descents, const Instance &marks) {
+    Contenders contenders;
+    for (auto &descent : descents) contenders.push_back(std::make_unique<C>(descent));
+    contenders.push_back(std::make_unique<C>(marks));
+    return Kinds(std::move(contenders));
+}
+
+void kinds_table(const std::vector<Instance> &instances) {
+    Rows rows;
+    Column decision, back, mark_and_back;
+    rows.add("| Instance | decision / walls | back / walls | mark and back / walls | decision, ns | back, ns | "
+             "mark and back, ns |\n|---|---|---|---|---|---|---|\n");
+    for (auto &instance : instances) {
+        fprintf(stderr, "compare: %s, by kind of call\n", instance.name.c_str());
+        std::vector<Instance> descents = descents_of(instance);
+        Instance marks = marks_alone(instance);
+        Kinds ours = kinds_of<Proved>(descents, marks), theirs = kinds_of<Plain<Walls>>(descents, marks);
+        double begin = cpu_ns();
+        for (size_t round = 0; round < ROUNDS || cpu_ns() - begin < ROUNDS_NS; round++) {
+            (round % 2 ? ours : theirs).round();
+            (round % 2 ? theirs : ours).round();
+        }
+        double times[3] = { middle(ours.decision), middle(ours.back), middle(ours.mark_and_back) };
+        rows.add("| %s | %.2f | %.2f | %.2f | %.0f | %.0f | %.0f |\n", instance.name.c_str(),
+                 decision.add(times[0] / middle(theirs.decision)), back.add(times[1] / middle(theirs.back)),
+                 mark_and_back.add(times[2] / middle(theirs.mark_and_back)), times[0], times[1], times[2]);
+        for (auto kinds : { &ours, &theirs }) {
+            for (auto times_of_kind : { &kinds->decision, &kinds->back, &kinds->mark_and_back })
+                rows.taken_from(*times_of_kind);
+        }
+    }
+    rows.add("| geometric mean | %.2f | %.2f | %.2f | | | |\n", decision.mean(), back.mean(), mark_and_back.mean());
+    rows.print();
+}
+
+#endif
+
+int run(int count, char **words) {
+    std::string table = count > 1 ? words[1] : "";
+    std::vector<Instance> instances;
+    for (int i = 3; i < count; i++) instances.emplace_back(words[2], words[i]);
+    if (instances.empty()) fail("usage: compare TABLE FOLDER NAME..");
+    if (table == "wrong") return find_out(instances), 0;
+#ifdef GECODE
+    if (table == "gecode") return gecode_table(instances), 0;
+#else
+    if (table == "all-in") return all_in_table(instances), 0;
+    if (table == "kinds") return kinds_table(instances), 0;
+#endif
+    fail("no table %s", table.c_str());
+}
+
+} // namespace compare
+
+int main(int count, char **words) { return compare::run(count, words); }
