@@ -7,9 +7,10 @@ use acts::is_shut;
 use book::slots;
 use book::values;
 use filter::Outcome;
+use settling::clear_masks;
 use settling::open_book;
 ghost use mathlib.Core.Path.{_≡_};
-ghost use lib.ListN.{length, replicate};
+ghost use lib.ListN.{length};
 ghost use Rattle.running.specs.BookRan.{Openable, Opens, BookRunnable, BookRan};
 
 // Opens a good book and runs a list of calls from there, with two words for each.
@@ -59,21 +60,12 @@ fn open_session(
             };
         }
         Outcome::Dead(_) => {
-            clear(masks);
+            clear_masks(masks);
             return Session {
                 standing: Standing::OpenedDead,
                 top: 0,
                 marks: 0,
             };
         }
-    }
-}
-
-// Takes every value out of masks.
-fn clear(masks: &mut [u32])
-    ensures { λ _. ⌜ now (masks .exit) ≡ replicate (length (now (masks .entry))) 0 ⌝ }
-{
-    for slot in 0..masks.len() {
-        masks[slot] = 0;
     }
 }

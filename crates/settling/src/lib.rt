@@ -12,7 +12,7 @@ use book::number;
 use book::read;
 use book::slots;
 use filter::Outcome;
-use load::clear_masks;
+pub use load::clear_masks;
 pub use open::open_book;
 ghost use mathlib.Core.Path.{_≡_};
 ghost use lib.ListN.{length};

@@ -36,8 +36,8 @@ returns c =
 enum-told : tie.Need-enum-told
 enum-told c = search needs
 
-clear-requires : tie.Need-clear-requires
-clear-requires c κs = search needs
+clear-masks-requires : tie.Need-clear-masks-requires
+clear-masks-requires c κs = search needs
 
 same-length-6 : tie.Need-same-length-6
 same-length-6 c = search needs
@@ -56,7 +56,7 @@ same-length-10 c = search needs
 
 returns-2 : tie.Need-returns-2
 returns-2 c =
-    opens-dead (c .before .before .before .before .before .before .before .before .before .before .before .before .before .before .before .before .before .before .before .before .before .before .before .before .before .before .before .before .pre) (c .before .before .clear .kept .0 ∙ c .before .before .before .before .before .before .before .before .before .before .before .before .before .before .before .before .open-book .kept .1 .0) (c .before .before .before .before .before .before .before .before .before .before .before .before .before .before .before .before .open-book .kept .1 .1 .0) (c .before .before .before .before .before .before .before .before .before .before .before .before .before .before .before .before .open-book .kept .1 .1 .1 .0) (c .before .before .before .before .before .before .before .before .before .before .before .before .before .before .before .before .open-book .last .1 .0) (c .before .before .before .before .before .before .before .before .before .before .before .before .before .before .before .before .open-book .last .1 .1 .1 .1 .0) (c .before .before .before .before .before .before .before .before .before .before .before .before .before .before .before .before .open-book .last .1 .1 .1 .1 .1 .0) (c .before .before .before .before .before .before .before .before .before .before .before .before .before .before .before .before .open-book .result) (c .before .before .before .before .enum-told .given .1) (c .before .before .before .before .before .before .before .before .before .before .before .before .before .before .before .before .open-book .ensures) (c .before .before .clear .ensures ∙ ap (λ (m : ℕ). replicate m 0) (c .before .before .before .before .before .before .before .before .before .before .before .before .before .before .before .before .open-book .kept .1 .0))
+    opens-dead (c .before .before .before .before .before .before .before .before .before .before .before .before .before .before .before .before .before .before .before .before .before .before .before .before .before .before .before .before .pre) (c .before .before .clear-masks .kept .0 ∙ c .before .before .before .before .before .before .before .before .before .before .before .before .before .before .before .before .open-book .kept .1 .0) (c .before .before .before .before .before .before .before .before .before .before .before .before .before .before .before .before .open-book .kept .1 .1 .0) (c .before .before .before .before .before .before .before .before .before .before .before .before .before .before .before .before .open-book .kept .1 .1 .1 .0) (c .before .before .before .before .before .before .before .before .before .before .before .before .before .before .before .before .open-book .last .1 .0) (c .before .before .before .before .before .before .before .before .before .before .before .before .before .before .before .before .open-book .last .1 .1 .1 .1 .0) (c .before .before .before .before .before .before .before .before .before .before .before .before .before .before .before .before .open-book .last .1 .1 .1 .1 .1 .0) (c .before .before .before .before .before .before .before .before .before .before .before .before .before .before .before .before .open-book .result) (c .before .before .before .before .enum-told .given .1) (c .before .before .before .before .before .before .before .before .before .before .before .before .before .before .before .before .open-book .ensures) (c .before .before .clear-masks .ensures ∙ ap (λ (m : ℕ). replicate m 0) (c .before .before .before .before .before .before .before .before .before .before .before .before .before .before .before .before .open-book .kept .1 .0))
 
 pub open-session-spec : {M : Type 1} → statement M
 open-session-spec =
@@ -71,7 +71,7 @@ open-session-spec =
     same-length-5
     returns
     enum-told
-    clear-requires
+    clear-masks-requires
     same-length-6
     same-length-7
     same-length-8
