@@ -118,6 +118,11 @@ pub within-in : (most x : ℕ) → 1 ≤ x → x ≤ most → within most x ≡ 
 within-in most x 1≤x x≤most = simp (le-leb 1 x 1≤x, le-leb x most x≤most)
 
 -- ---- headerFault
+-- byte 3 is looked at before the layout
+pub headerFault-reserved : (limits : Limits) (b : List ℕ) → ltb (length b) 12 ≡ false → outOfRange limits b ≡ false → (reserved b ≡ 0 → ⊥) → headerFault limits b ≡ 3
+unfolding headerFault
+headerFault-reserved limits b long in-range some = simp (long, in-range, ne-eqb (reserved b) 0 some)
+
 headerFault-le : (limits : Limits) (b : List ℕ) → headerFault limits b ≤ 4
 unfolding headerFault
 headerFault-le limits b =

@@ -1,21 +1,17 @@
-// The reader of order books: whether a lent slice of bytes is a good book, and where its parts stand.
-// It refuses by document 01's numbers 1 to 8, each a case of `Verdict`; every slice of every length gets an answer.
-// The contracts cite `specs/Refusal.antt` here and in the module refusal, `specs/Layout.antt` in the module layout.
+// Order books: where the parts of one stand among its bytes, and what a reader answers.
+// The contracts cite `specs/Layout.antt` in the module layout, `specs/Refusal.antt` here.
 mod layout; // layout.rt: the numbers, masks and rows at their places
-mod refusal; // refusal.rt: the conditions, in document 01's order
 
+pub use layout::byte;
 pub use layout::mask_at;
+pub use layout::read16;
 pub use layout::row_at;
 pub use layout::row_count;
 pub use layout::rows;
 pub use layout::slots;
 pub use layout::values;
-use refusal::header_verdict;
-use refusal::is_good;
-use refusal::masks_verdict;
-use refusal::rows_verdict;
 ghost use mathlib.Core.Path.{_≡_};
-ghost use Rattle.book.specs.Refusal.{refusal, numberOf};
+ghost use Rattle.book.specs.Refusal.{numberOf};
 
 // The largest book that a reader takes.
 pub struct Limits {
@@ -33,7 +29,7 @@ pub struct Row {
     pub upper: usize,
 }
 
-// What the reader answers. `numberOf` of specs/Refusal.antt gives document 01's number of each case.
+// What a reader answers. `numberOf` of specs/Refusal.antt gives document 01's number of each case.
 pub enum Verdict {
     Good,
     TooShort,
@@ -44,23 +40,6 @@ pub enum Verdict {
     BadRowValue,
     BadRowEnd,
     BadRowBound,
-}
-
-// The first refusal that applies to book, or Good.
-pub fn read(book: &[u8], limits: Limits) -> Verdict
-    ensures { λ r. ⌜ numberOf r ≡ refusal limits (now (book .entry)) ⌝ }
-{
-    let header = header_verdict(book, limits);
-    if !is_good(header) {
-        return header;
-    }
-    let n = slots(book);
-    let k = values(book);
-    let masks = masks_verdict(book, n, k);
-    if !is_good(masks) {
-        return masks;
-    }
-    rows_verdict(rows(book), row_count(book), n, k)
 }
 
 // Document 01's number of an answer.

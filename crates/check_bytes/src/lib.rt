@@ -3,7 +3,7 @@ use answer::Answer;
 use answer::word;
 use book::Limits;
 use book::number;
-use book::read;
+use reader::read;
 ghost use mathlib.Core.Path.{_≡_};
 ghost use Rattle.entries_model.specs.Entries.{checkAnswer};
 

@@ -7,11 +7,11 @@ mod start; // start.rt: the starting table of a book
 use answer::Answer;
 use book::Limits;
 use book::number;
-use book::read;
 use book::slots;
 use book::values;
 use bounds::close_table;
 use fill::fill_zeros;
+use reader::read;
 use start::start_table;
 ghost use mathlib.Core.Path.{_≡_};
 ghost use Prim.Native.Nat.{_≤_};

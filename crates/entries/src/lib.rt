@@ -21,7 +21,7 @@ pub fn check(book: &[u8]) -> Verdict
         values: 32,
         rows: 1024,
     };
-    book::read(book, limits)
+    reader::read(book, limits)
 }
 
 // Closes the table of book into the fronts of lowers and uppers, value by value.

@@ -3,8 +3,8 @@
 use answer::Answer;
 use book::Limits;
 use book::number;
-use book::read;
 use book::slots;
+use reader::read;
 use running::run_book;
 ghost use mathlib.Core.Path.{_≡_};
 ghost use lib.ListN.{length};

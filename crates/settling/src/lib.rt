@@ -9,11 +9,11 @@ mod table; // table.rt: the rises of a book's closed table
 use answer::Answer;
 use book::Limits;
 use book::number;
-use book::read;
 use book::slots;
 use filter::Outcome;
 pub use load::clear_masks;
 pub use open::open_book;
+use reader::read;
 ghost use mathlib.Core.Path.{_≡_};
 ghost use lib.ListN.{length};
 ghost use Rattle.answer.specs.Answer.{wordOf};
