@@ -92,6 +92,11 @@ pub clearBit-le : (m v : ℕ) → clearBit m v ≤ m
 unfolding clearBit
 clearBit-le m v = omega arith
 
+-- a value that is in, taken out, is one bit less
+pub clearBit-has : (m v : ℕ) → Has m v → clearBit m v + 2 ^ v ≡ m
+unfolding clearBit
+clearBit-has m v has = rw has (omega (arith, rw has at (testBit-le m v)))
+
 -- the bit is gone
 pub testBit-clearBit-same : (m v : ℕ) → testBit (clearBit m v) v ≡ 0
 testBit-clearBit-same m zero = testBit-zero (clearBit m 0) ∙ omega (arith, clearBit-zero m)
@@ -171,11 +176,6 @@ ones-same =
     let rest : (v : ℕ) → testBit (a / 2) v ≤ testBit (b / 2) v = λ v. omega (arith, sub (suc v), testBit-suc a v, testBit-suc b v) in
     let half : a / 2 ≡ b / 2 = ih (b / 2) rest (omega (arith, ones-step a, ones-step b)) in
     omega (arith, ones-step a, ones-step b, ones-subset (a / 2) (b / 2) rest)
-
--- a value fewer, fewer ones
-pub ones-less : (a b w : ℕ) → ((v : ℕ) → testBit a v ≤ testBit b v) → testBit a w ≡ 0 → Has b w → ones a < ones b
-ones-less a b w sub lacks has =
-    lt-of-not-le (λ as-many. omega (arith, ap (λ (x : ℕ). testBit x w) (ones-same a b sub as-many)))
 
 -- ---- Fixed
 

@@ -2,7 +2,7 @@
 // The contracts cite `specs/Mask.antt`; `specs/Masks.antt` has what the layers above say of lists of masks.
 ghost use mathlib.Core.Path.{_≡_};
 ghost use Prim.Native.Nat.{_+_, _<_, _^_};
-ghost use lib.Dec.{eqb};
+ghost use lib.Dec.{eqb, ltb};
 ghost use lib.Count.{ones};
 ghost use Rattle.domains.specs.Mask.{testBit, clearBit, Fixed, Lowest};
 
@@ -20,6 +20,14 @@ pub fn without(m: u32, v: u32) -> u32
     ensures { λ r. ⌜ r ≡ clearBit m v ⌝ }
 {
     m - ((m >> v) % 2 << v)
+}
+
+// m without value v, which it has.
+pub fn less(m: u32, v: u32) -> u32
+    requires { ⌜ (v < 32) × (testBit m v ≡ 1) ⌝ }
+    ensures { λ r. ⌜ r ≡ clearBit m v ⌝ }
+{
+    m - (1 << v)
 }
 
 // m with value v put in, where it is not.
@@ -42,6 +50,13 @@ pub fn is_single(m: u32) -> bool
     ensures { λ r. ⌜ r ≡ eqb (ones m) 1 ⌝ }
 {
     u32::count_ones(m) == 1
+}
+
+// Whether m has more than two values: at least two are left when one is taken out.
+pub fn is_wide(m: u32) -> bool
+    ensures { λ r. ⌜ r ≡ ltb 2 (ones m) ⌝ }
+{
+    2 < u32::count_ones(m)
 }
 
 // The value that m is fixed to, where it has just one.

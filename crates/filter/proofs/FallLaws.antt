@@ -1,17 +1,20 @@
--- What `segments::fall_in` answers, read as a reach: `Dropped` of filter_model's `specs/Strike.antt`, one law for each answer
--- (`dropped-quiet`, `dropped-clash`, `dropped-reached`). No contract cites this file. Assumes nothing.
+-- What `segments::fall_in` answers, read as a reach and a clash: `Dropped` of filter_model's `specs/Strike.antt` and `Told`, one law for each
+-- answer (`dropped-quiet`, `dropped-clash`, `dropped-reached`). No contract cites this file. Assumes nothing.
 use mathlib.Core.Path.{_≡_, subst}
-use mathlib.Core.Bool.{Bool}
+use mathlib.Core.Bool.{Bool, true, false}
 use mathlib.Core.List.{List}
-use Prim.Native.Nat.{ℕ, _+_, _≤_, zero-le}
+use Prim.Native.Nat.{ℕ, _+_, _*_, _≤_, zero-le}
 use native.Mathlib.Omega.{arith}
+use lib.ListN.{getD}
 use Rattle.segments_model.specs.Links.{Held}
-use Rattle.segments_model.specs.Part.{Lent}
-use Rattle.segments_model.proofs.PartLaws.{lent-map}
-use Rattle.segments.specs.Fell.{Inside, Answer, Reverses, Fell}
+use Rattle.segments_model.specs.Part.{part, Lent}
+use Rattle.segments_model.proofs.PartLaws.{lent-map, lent-same}
+use Rattle.segments.specs.Fell.{Inside, Answer, Reverses, Barred, Fell}
 use Rattle.segments.specs.declared.Hit.{Hit}
 use Rattle.segments.specs.declared.Hit.the-variants.{Quiet, Clash, Reached}
 use Rattle.filter_model.specs.Strike.{Dropped}
+use Rattle.filter_model.proofs.RowLaws.{row-first}
+use Rattle.filter.specs.Filtered.{Told}
 
 module _ (n slot : ℕ) (a b : List ℕ) {r : Hit} (fell : Fell n slot a b r) where
   answer-at : (r′ : Hit) → r ≡ r′ → (C : ℕ → Bool) (f : ℕ → ℕ) → Held n C f a → Answer n C f slot a b r′
@@ -61,12 +64,27 @@ module _ (n slot : ℕ) (a b : List ℕ) {r : Hit} (fell : Fell n slot a b r) wh
         back = λ free. reverses-at (Reached t x) is;
       }
 
-module _ {base n slot : ℕ} {l l′ : List ℕ} {r : Hit} (lent : Lent base (n + 1) (λ a b. Fell n slot a b r) l l′) where
-  pub dropped-quiet : {x : ℕ} → r ≡ Quiet x → Lent base (n + 1) (λ a b. Dropped n slot a b 0 x) l l′
-  dropped-quiet {x} is = lent-map (λ a b fell. quiet-drops n slot a b fell x is) lent
+-- the row of cells that was lent
+module _ (row : ℕ) {n slot : ℕ} {l l′ : List ℕ} {r : Hit} (lent : Lent (row * (n + 1)) (n + 1) (λ a b. Fell n slot a b r) l l′) where
+  barred-at : (r′ : Hit) → r ≡ r′ → Barred slot (part (row * (n + 1)) (n + 1) l) (part (row * (n + 1)) (n + 1) l′) r′
+  barred-at r′ is =
+      subst (λ (h : Hit). Barred slot (part (row * (n + 1)) (n + 1) l) (part (row * (n + 1)) (n + 1) l′) h) is (lent .does .barred)
 
-  pub dropped-clash : r ≡ Clash → Lent base (n + 1) (λ a b. Dropped n slot a b 0 0) l l′
-  dropped-clash is = lent-map (λ a b fell. clash-drops n slot a b fell is) lent
+  pub dropped-quiet : {x : ℕ} → r ≡ Quiet x
+      → Lent (row * (n + 1)) (n + 1) (λ a b. Dropped n slot a b 0 x) l l′ × Told slot (getD l (row * (n + 1)) 0) l l′ false
+  dropped-quiet {x} is = (lent-map (λ a b fell. quiet-drops n slot a b fell x is) lent, rw (row-first n row l) at (barred-at (Quiet x) is))
 
-  pub dropped-reached : {t x : ℕ} → r ≡ Reached t x → Lent base (n + 1) (λ a b. Dropped n slot a b t x) l l′
-  dropped-reached {t} {x} is = lent-map (λ a b fell. reached-drops n slot a b fell t x is) lent
+  pub dropped-clash : r ≡ Clash
+      → Lent (row * (n + 1)) (n + 1) (λ a b. Dropped n slot a b 0 0) l l′ × Told slot (getD l (row * (n + 1)) 0) l l′ true
+  dropped-clash is = (
+    lent-map (λ a b fell. clash-drops n slot a b fell is) lent,
+    (
+      rw (row-first n row l) at (reverses-at n slot (part (row * (n + 1)) (n + 1) l) (part (row * (n + 1)) (n + 1) l′) (lent .does) Clash is),
+      lent-same (record { does = barred-at Clash is; size = lent .size; before = lent .before; after = lent .after }),
+    ),
+  )
+
+  pub dropped-reached : {t x : ℕ} → r ≡ Reached t x
+      → Lent (row * (n + 1)) (n + 1) (λ a b. Dropped n slot a b t x) l l′ × Told slot (getD l (row * (n + 1)) 0) l l′ false
+  dropped-reached {t} {x} is =
+      (lent-map (λ a b fell. reached-drops n slot a b fell t x is) lent, rw (row-first n row l) at (barred-at (Reached t x) is))

@@ -4,7 +4,7 @@ use mathlib.Core.Path.{_≡_, subst}
 use mathlib.Core.Bool.{Bool}
 use mathlib.Core.List.{List}
 use Prim.Native.Nat.{ℕ}
-use Rattle.filter_model.specs.Cuts.{SlotCut}
+use Rattle.filter_model.specs.Cuts.{BoundCut}
 use Rattle.filter_model.proofs.MirrorLaws.{progress-refl, progress-trans}
 use Rattle.filter_model.proofs.StateLaws.{moved-refl, moved-trans}
 use Rattle.filter.specs.Filtered.{Lived, Filtered}
@@ -63,8 +63,7 @@ filtered-asks asks done =
       goal = done .goal;
     }
 
--- a cut of one kind, where the kind is known
-pub filtered-kind : {n k : ℕ} {m₀ c₀ t₀ m₁ c₁ t₁ : List ℕ} {h₀ : ℕ} {r : Outcome} (b kind : Bool) (slot v : ℕ) → kind ≡ b
-    → Filtered n k (SlotCut b slot v) (SlotCut b slot v) m₀ c₀ t₀ h₀ m₁ c₁ t₁ r
-    → Filtered n k (SlotCut kind slot v) (SlotCut kind slot v) m₀ c₀ t₀ h₀ m₁ c₁ t₁ r
-filtered-kind b kind slot v is done = rw is done
+-- a met bound of one kind, where the kind is known
+pub filtered-bound : {n k : ℕ} {G : List ℕ → Type 0} {m₀ c₀ t₀ m₁ c₁ t₁ : List ℕ} {h₀ : ℕ} {r : Outcome} (b kind : Bool) (v end : ℕ) → kind ≡ b
+    → Filtered n k (BoundCut b m₀ v end) G m₀ c₀ t₀ h₀ m₁ c₁ t₁ r → Filtered n k (BoundCut kind m₀ v end) G m₀ c₀ t₀ h₀ m₁ c₁ t₁ r
+filtered-bound b kind v end is done = rw is done

@@ -3,3 +3,4 @@ pub mod FilteredLaws
 pub mod LargestLaws
 pub mod LoopLaws
 pub mod StrikeLaws
+pub mod ThinLaws

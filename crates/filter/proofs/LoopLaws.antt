@@ -1,10 +1,10 @@
--- What the loops of the cycle pass: the values that `fix` has yet to strike (`Others`, `fix-strikes`), and the slots that `prune` has settled
--- (`free-concerned`, `settled-cut`). No contract cites this file. Assumes nothing.
+-- What the loops of the cycle pass: the values that `fix` strikes (`other-cut`, `other-last`), and the slots that are settled (`free-concerned`,
+-- `settled-cut`). No contract cites this file. Assumes nothing.
 use mathlib.Core.Path.{_≡_, sym, ap, subst, _∙_}
 use mathlib.Core.Bool.{Bool, true, false, not}
 use mathlib.Core.Logic.{dite}
 use mathlib.Core.List.{List}
-use Prim.Native.Nat.{ℕ, _+_, _≤_, _<_, zero-le}
+use Prim.Native.Nat.{ℕ, _+_, _≤_, _<_}
 use native.Mathlib.Nat.{lt-of-not-le}
 use native.Mathlib.Numerals.{add-one}
 use native.Mathlib.Decide.{ℕ-discrete}
@@ -12,11 +12,11 @@ use native.Mathlib.Omega.{arith}
 use borrow.Author.Tests.{eqb-true, eqb-false}
 use lib.Dec.{eqb}
 use lib.Count.{ones}
-use lib.ListN.{getD}
+use lib.ListN.{length, getD}
 use Rattle.domains.specs.Mask.{testBit, clearBit, Has, Fixed}
-use Rattle.domains.specs.Masks.{HasAt, FixedAt, Subset, total}
+use Rattle.domains.specs.Masks.{HasAt, FixedAt, Alive, Subset, total}
 use Rattle.domains.proofs.MaskLaws.{testBit-lt, testBit-empty, testBit-clearBit-same, testBit-clearBit-other, testBit-clearBit-le}
-use Rattle.domains.proofs.MaskLaws.{ones-less, testBit-fixed-same, testBit-fixed-other, fixed-within}
+use Rattle.domains.proofs.MaskLaws.{ones-none, ones-empty, ones-clearBit, testBit-fixed-same, testBit-fixed-other, fixed-within, single-alone}
 use Rattle.domains.proofs.MasksLaws.{has-subset, fixed-has-subset, total-mono}
 use Rattle.settling_model.specs.Settled.{Settled}
 use Rattle.settling_model.proofs.SettledLaws.{lacks-not-has, settled-more, settled-subset}
@@ -37,55 +37,57 @@ pub free-single : (m v : ℕ) (b : Bool) → Has m v → b ≡ eqb (ones m) 1 �
 free-single m v true has single = λ _. single-has-fixed m v (eqb-true _ _ (sym single)) has
 free-single m v false has many = (has, many-free m (eqb-false _ _ (sym many)) v)
 
--- ---- fix: what the slot has but v
-pub record Others (slot v rest : ℕ) (M : List ℕ) : Type 0 where
-  pub is : rest ≡ clearBit (getD M slot 0) v
+-- ---- fix: w is one of the values that the slot has besides v
+pub record Other (M : List ℕ) (slot v w : ℕ) : Type 0 where
+  pub left : Has (clearBit (getD M slot 0) v) w
 
-module _ {slot v rest : ℕ} {M : List ℕ} (others : Others slot v rest M) where
-  others-bit : (w : ℕ) → Has rest w → testBit (clearBit (getD M slot 0) v) w ≡ 1
-  others-bit w has = rw (others .is) at has
+pub other-of : (M : List ℕ) (slot v w : ℕ) {rest : ℕ} → rest ≡ clearBit (getD M slot 0) v → Has rest w → Other M slot v w
+other-of M slot v w rest-is has = record { left = rw rest-is at has }
 
-  pub others-has : (w : ℕ) → Has rest w → HasAt M slot w
-  others-has w has =
-      omega (arith, others-bit w has, testBit-clearBit-le (getD M slot 0) v w, testBit-lt (getD M slot 0) w)
+module _ {M : List ℕ} {slot v w : ℕ} (other : Other M slot v w) where
+  pub other-has : HasAt M slot w
+  other-has = omega (arith, other .left, testBit-clearBit-le (getD M slot 0) v w, testBit-lt (getD M slot 0) w)
 
-  pub others-not : (w : ℕ) → Has rest w → w ≡ v → ⊥
-  others-not w has w≡v =
-      let bit : testBit (clearBit (getD M slot 0) v) v ≡ 1 = rw w≡v at (others-bit w has) in
+  other-not : w ≡ v → ⊥
+  other-not w≡v =
+      let bit : testBit (clearBit (getD M slot 0) v) v ≡ 1 = rw w≡v at (other .left) in
       omega (arith, testBit-clearBit-same (getD M slot 0) v)
 
-  pub others-value : {cells trail : List ℕ} {n k top w : ℕ} → World M cells trail n k top → Has rest w → w < k
-  others-value {w = w} world has = lt-of-not-le (λ k≤w. lacks-not-has M slot w (world .values slot w k≤w) (others-has w has))
+  pub other-value : {cells trail : List ℕ} {n k top : ℕ} → World M cells trail n k top → w < k
+  other-value world = lt-of-not-le (λ k≤w. lacks-not-has M slot w (world .values slot w k≤w) other-has)
 
-  -- a strike of one of them leaves fewer
-  pub others-less : {rest′ w : ℕ} {M′ : List ℕ} → Subset M′ M → Others slot v rest′ M′ → Has rest w → StrikeCut slot w M′ → ones rest′ < ones rest
-  others-less {rest′} {w} {M′} M′⊆M others′ has cut =
+  -- a list that is fixed to v lacks it
+  pub other-cut : (N : List ℕ) → FixCut slot v N → StrikeCut slot w N
+  other-cut N cut = record { lacks = rw (cut .fixed) (testBit-fixed-other v w other-not) }
+
+  -- where v and w are all, the strike of w leaves v
+  pub other-last : {M′ : List ℕ} → HasAt M slot v → ones (getD M slot 0) ≤ 2 → slot < length M → Subset M′ M → Alive M′ → StrikeCut slot w M′
+      → FixCut slot v M′
+  other-last {M′} has-v few inside M′⊆M alive cut =
       let m = getD M slot 0 in
       let m′ = getD M′ slot 0 in
-      let within : (x : ℕ) → testBit (clearBit m′ v) x ≤ testBit (clearBit m v) x =
-      λ x. dite (ℕ-discrete x v) (λ same. rw (same, testBit-clearBit-same m′ v) zero-le)
-      (λ other. rw (testBit-clearBit-other m′ v x other, testBit-clearBit-other m v x other) (M′⊆M .bits slot x)) in
-      rw (others′ .is, others .is)
-      (ones-less (clearBit m′ v) (clearBit m v) w within (omega (arith, testBit-clearBit-le m′ v w, cut .lacks)) (others-bit w has))
-
-  -- a slot without others is fixed to v
-  pub others-none : {cells trail : List ℕ} {n k top : ℕ} → World M cells trail n k top → slot < n → rest ≡ 0 → FixCut slot v M
-  others-none world slot<n none =
-      let m = getD M slot 0 in
-      let empty : clearBit m v ≡ 0 = sym (others .is) ∙ none in
+      let some : (ones (clearBit m v) ≡ 0 → ⊥) =
+      λ none. omega (arith, other .left, ap (λ (x : ℕ). testBit x w) (ones-empty (clearBit m v) none), testBit-empty w) in
+      let one : ones (clearBit m v) ≡ 1 = omega (arith, some, ones-clearBit m v, has-v, few) in
       record {
         fixed =
-            fixed-within m v (world .alive .each slot (omega (arith, world .slots)))
+            fixed-within m′ v (alive .each slot (omega (arith, M′⊆M .len)))
             (λ x.
-            dite (ℕ-discrete x v) (λ same. rw same (omega (arith, testBit-fixed-same v, testBit-lt m v)))
-            (λ other.
-            rw (sym (testBit-clearBit-other m v x other)) (omega (arith, ap (λ (y : ℕ). testBit y x) empty, testBit-empty x))));
+            dite (ℕ-discrete x v) (λ same. rw same (omega (arith, testBit-fixed-same v, testBit-lt m′ v)))
+            (λ not-v.
+            dite (ℕ-discrete x w) (λ same. rw same (omega (arith, cut .lacks)))
+            (λ not-w.
+            omega (arith, M′⊆M .bits slot x, testBit-clearBit-other m v x not-v, single-alone (clearBit m v) w x one (other .left) not-w))));
       }
 
-pub fix-strikes : {slot v w : ℕ} {N : List ℕ} → (w ≡ v → ⊥) → FixCut slot v N → StrikeCut slot w N
-fix-strikes {slot} {v} {w} w≢v cut = record { lacks = rw (cut .fixed) (testBit-fixed-other v w w≢v) }
+-- a slot that has v and nothing besides is fixed to v
+pub other-none : (M : List ℕ) (slot v : ℕ) {rest : ℕ} → HasAt M slot v → rest ≡ clearBit (getD M slot 0) v → rest ≡ 0 → FixCut slot v M
+other-none M slot v has rest-is none =
+    let m = getD M slot 0 in
+    let empty : clearBit m v ≡ 0 = sym rest-is ∙ none in
+    record { fixed = single-has-fixed m v (omega (arith, ones-clearBit m v, ap ones empty, ones-none, has)) has }
 
--- ---- prune
+-- ---- the slots before an end
 -- a slot that has v and others besides is concerned by a bound that M₀ meets, where M lies within M₀
 pub free-concerned : (kind : Bool) {M M₀ : List ℕ} → Subset M M₀ → (s v : ℕ) → HasAt M s v → (FixedAt M s v → ⊥) → Concerned kind M₀ s v
 free-concerned true M⊆M₀ s v has free = has-subset M⊆M₀ s v has

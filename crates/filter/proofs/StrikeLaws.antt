@@ -1,17 +1,19 @@
 -- `strike` from its parts: the value is not there (`strike-absent`), no stable list allows the strike (`strike-contradicted`), or it is made and
--- followed (`strike-followed`). `follow` from its prunes: none, one, a dead end in the first, or both (`follow-none` to `follow-both`).
+-- followed (`strike-followed`; `thin-quiet` and `thin-followed` where several values are left). `follow` from its two loops: none, one, a dead
+-- end in the first, or both (`follow-none` to `follow-both`). A fix to an absent value is a dead end (`fix-absent`).
 -- No contract cites this file. Assumes nothing.
-use mathlib.Core.Path.{_≡_, subst}
+use mathlib.Core.Path.{_≡_, refl, subst}
 use mathlib.Core.Bool.{true, false}
 use mathlib.Core.Logic.{inl, inr, ⊎-elim}
 use mathlib.Core.List.{List}
 use Prim.Native.Nat.{ℕ, _+_}
 use native.Mathlib.Omega.{arith}
 use Rattle.domains.specs.Masks.{HasAt, Alive}
-use Rattle.domains.proofs.MasksLaws.{fixed-subset}
+use Rattle.domains.proofs.MaskLaws.{testBit-fixed-same}
+use Rattle.domains.proofs.MasksLaws.{has-subset, fixed-subset}
 use Rattle.settling_model.specs.Settled.{Settled}
 use Rattle.settling_model.proofs.SettledLaws.{not-has-lacks, settled-none, settled-subset}
-use Rattle.filter_model.specs.Cuts.{StrikeCut, BoundCut}
+use Rattle.filter_model.specs.Cuts.{StrikeCut, FixCut, BoundCut}
 use Rattle.filter_model.specs.State.{Moved, Contradicted, Removed}
 use Rattle.filter_model.specs.Strike.{Cuts}
 use Rattle.filter_model.proofs.SpentLaws.{settled-before}
@@ -49,6 +51,18 @@ strike-contradicted {n = n} {k = k} {m = m} {c = c} {t = t} {top = top} contradi
       keeps = dead;
       goal = λ no. absurd no;
     })
+
+-- a slot that lacks v is fixed to v in no list
+pub fix-absent : {n k : ℕ} {G : List ℕ → Type 0} (m c t : List ℕ) (top slot v : ℕ) → (HasAt m slot v → ⊥)
+    → Filtered n k (FixCut slot v) G m c t top m c t (Dead top)
+fix-absent {n} {k} m c t top slot v absent =
+    record {
+      moved = moved-refl n k m c t top;
+      mirror = λ T mirror. mirror;
+      progress = λ no. absurd no;
+      keeps = λ T mirror N stable N⊆m cut. absent (has-subset N⊆m slot v (rw (cut .fixed) (testBit-fixed-same v)));
+      goal = λ no. absurd no;
+    }
 
 -- ---- what follows a strike
 -- what the upper bound asks of masks it asks of later ones: a fixed slot stays fixed
@@ -115,3 +129,12 @@ module _ {n k : ℕ} {m₀ c₀ t₀ m₁ c₁ t₁ : List ℕ} {top slot v a b 
             after .keeps T (struck .mirror) N stable (cuts .within) cuts;
         goal = λ live. record { lacks = omega (arith, after .moved .within .bits slot v, removed .cut .lacks) };
       }
+
+-- ---- a strike that leaves several values
+module _ {n k : ℕ} {m₀ c₀ t₀ m₁ c₁ t₁ : List ℕ} {top slot v a : ℕ} (removed : Removed n k m₀ c₀ t₀ top m₁ c₁ t₁ slot v a 0 0) where
+  pub thin-quiet : a ≡ 0 → Filtered n k (StrikeCut slot v) (StrikeCut slot v) m₀ c₀ t₀ top m₁ c₁ t₁ (Live (top + 1))
+  thin-quiet a≡0 = strike-followed removed (follow-none a≡0 refl)
+
+  pub thin-followed : {m₂ c₂ t₂ : List ℕ} {r : Outcome} → Filtered n k (BoundCut true m₁ v a) (λ M. Settled M v a) m₁ c₁ t₁ (top + 1) m₂ c₂ t₂ r
+      → Filtered n k (StrikeCut slot v) (StrikeCut slot v) m₀ c₀ t₀ top m₂ c₂ t₂ r
+  thin-followed low = strike-followed removed (follow-low refl low)

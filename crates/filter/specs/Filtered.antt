@@ -5,11 +5,14 @@
 --                           Live: progress, G holds of the masks, and every stable list with the cut lies within them; Dead: there is no such list
 --   Followed v a w b M      after a strike: all before a is settled for v, and all before b for w
 --   Removal·Answer          one whole strike, by the answer of `strike_one`
+--   Told slot z cells ..    whether the slot is before z, a row's spent corner; then the cells stay
+--   Thinned                 a strike that leaves several values, by the answer of `thin`: it cannot be, or v's reach is a
 --   Free m v r              r tells whether m has v and others besides
 -- Assumes nothing.
+use mathlib.Core.Path.{_≡_}
 use mathlib.Core.Bool.{Bool, true, false}
 use mathlib.Core.List.{List}
-use Prim.Native.Nat.{ℕ}
+use Prim.Native.Nat.{ℕ, _≤_, _<_}
 use Rattle.domains.specs.Mask.{Has, Fixed}
 use Rattle.domains.specs.Masks.{Subset}
 use Rattle.closing_model.specs.Table.{Table}
@@ -50,6 +53,14 @@ abbrev pub Removal·Answer : ℕ → ℕ → List ℕ → List ℕ → List ℕ 
 Removal·Answer n k masks cells trail top masks′ cells′ trail′ slot v Contradiction = Contradicted n k masks cells trail masks′ cells′ trail′ slot v
 Removal·Answer n k masks cells trail top masks′ cells′ trail′ slot v (Made a b w) =
     Removed n k masks cells trail top masks′ cells′ trail′ slot v a b w
+
+abbrev pub Told : ℕ → ℕ → List ℕ → List ℕ → Bool → Type 0
+Told slot z cells cells′ true = (slot < z) × (cells′ ≡ cells)
+Told slot z cells cells′ false = z ≤ slot
+
+abbrev pub Thinned : ℕ → ℕ → List ℕ → List ℕ → List ℕ → ℕ → List ℕ → List ℕ → List ℕ → ℕ → ℕ → ℕ → Bool → Type 0
+Thinned n k masks cells trail top masks′ cells′ trail′ slot v a true = Contradicted n k masks cells trail masks′ cells′ trail′ slot v
+Thinned n k masks cells trail top masks′ cells′ trail′ slot v a false = Removed n k masks cells trail top masks′ cells′ trail′ slot v a 0 0
 
 abbrev pub Free : ℕ → ℕ → Bool → Type 0
 Free m v true = Has m v × (Fixed m v → ⊥)

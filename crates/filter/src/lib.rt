@@ -1,18 +1,20 @@
 // The filter: `fix` and `strike` call each other until everything before each corner that loses its last slack is settled, or a dead end is found.
 // Nothing is refused here. The contracts cite `specs/Filtered.antt` and the definitions of filter_model.
 ghost use mathlib.Core.Path.{_≡_};
+ghost use mathlib.Core.Bool.{true, false};
 ghost use Prim.Native.Nat.{_+_, _*_, _<_, _≤_};
-ghost use lib.Dec.{eqb};
+ghost use lib.Dec.{eqb, ltb};
+ghost use lib.Count.{ones};
 ghost use lib.ListN.{length, getD, set};
 ghost use Rattle.domains.specs.Mask.{testBit, clearBit};
 ghost use Rattle.domains.specs.Masks.{HasAt};
 ghost use Rattle.settling_model.specs.Settled.{Settled};
 ghost use Rattle.segments_model.specs.Part.{Lent};
-ghost use Rattle.filter_model.specs.Cuts.{StrikeCut, FixCut, SlotCut, BoundCut};
+ghost use Rattle.filter_model.specs.Cuts.{StrikeCut, FixCut, BoundCut};
 ghost use Rattle.filter_model.specs.State.{Ready, Pruning};
 ghost use Rattle.filter_model.specs.Strike.{Dropped, Cuts};
 ghost use Rattle.filter_model.specs.Trail.{written};
-ghost use Rattle.filter.specs.Filtered.{Filtered, Followed, Removal·Answer, Free};
+ghost use Rattle.filter.specs.Filtered.{Filtered, Followed, Removal·Answer, Told, Thinned, Free};
 
 // The trail's height after a call, and whether a stable list may be left.
 pub enum Outcome {
@@ -27,13 +29,14 @@ enum Removal {
     Made(usize, usize, u32),
 }
 
-// A row's fall: the end before which all must be settled, or 0; and the note by which the fall is taken back.
+// A row's fall: that it cannot be; the end before which all must be settled, or 0; and the note by which the fall is taken back.
 struct Descent {
+    clash: bool,
     reach: usize,
     note: usize,
 }
 
-// Cuts the slot to value v, with all that follows: strikes each other value that it has. Where it lacks v, its last value is a contradiction.
+// Cuts the slot to value v, with all that follows: strikes each other value that it has. A slot that lacks v is a dead end.
 pub fn fix(
     masks: &mut [u32],
     cells: &mut [u16],
@@ -49,21 +52,47 @@ pub fn fix(
         (now (masks .entry)) (now (cells .entry)) (now (trail .entry)) top (now (masks .exit)) (now (cells .exit)) (now (trail .exit)) r ⌝ }
 {
     let mut h = top;
-    let mut rest = without_value(masks, slot, v);
-    while rest != 0 {
-        let w = domains::lowest(rest);
-        let o = strike(masks, cells, trail, n, k, h, slot, w);
-        match o {
-            Outcome::Live(x) => {
-                h = x;
-            }
-            Outcome::Dead(x) => {
-                return Outcome::Dead(x);
-            }
+    while is_wide(masks, slot) {
+        let w = domains::lowest(without_value(masks, slot, v));
+        let low = thin(masks, cells, trail, n, k, h, slot, w);
+        if low.clash {
+            return Outcome::Dead(h);
         }
-        rest = without_value(masks, slot, v);
+        h += 1;
+        if low.reach == 0 {
+            continue;
+        }
+        match fix_free(masks, cells, trail, n, k, h, w, low.reach) {
+            Outcome::Live(x) => h = x,
+            Outcome::Dead(x) => return Outcome::Dead(x),
+        }
     }
-    Outcome::Live(h)
+    strike_other(masks, cells, trail, n, k, h, slot, v)
+}
+
+// Cuts a slot that has at most two values to v.
+fn strike_other(
+    masks: &mut [u32],
+    cells: &mut [u16],
+    trail: &mut [u8],
+    n: usize,
+    k: u32,
+    top: usize,
+    slot: usize,
+    v: u32,
+) -> Outcome
+    requires { ⌜ Ready (now masks) (now cells) (now trail) n k top slot v × (ones (getD (now masks) slot 0) ≤ 2) ⌝ }
+    ensures { λ r. ⌜ Filtered n k (FixCut slot v) (FixCut slot v)
+        (now (masks .entry)) (now (cells .entry)) (now (trail .entry)) top (now (masks .exit)) (now (cells .exit)) (now (trail .exit)) r ⌝ }
+{
+    if !has_value(masks, slot, v) {
+        return Outcome::Dead(top);
+    }
+    let rest = without_value(masks, slot, v);
+    if rest == 0 {
+        return Outcome::Live(top);
+    }
+    strike(masks, cells, trail, n, k, top, slot, domains::lowest(rest))
 }
 
 // Takes value v out of the slot, with all that follows.
@@ -113,15 +142,15 @@ fn follow(
         (now (masks .entry)) (now (cells .entry)) (now (trail .entry)) top (now (masks .exit)) (now (cells .exit)) (now (trail .exit)) r ⌝ }
 {
     if a == 0 {
-        return prune(masks, cells, trail, n, k, top, w, b, false);
+        return strike_free(masks, cells, trail, n, k, top, w, b);
     }
-    let p = prune(masks, cells, trail, n, k, top, v, a, true);
+    let p = fix_free(masks, cells, trail, n, k, top, v, a);
     match p {
         Outcome::Live(h) => {
             if b == 0 {
                 return Outcome::Live(h);
             }
-            return prune(masks, cells, trail, n, k, h, w, b, false);
+            return strike_free(masks, cells, trail, n, k, h, w, b);
         }
         Outcome::Dead(x) => {
             return Outcome::Dead(x);
@@ -145,44 +174,81 @@ pub fn prune(
     ensures { λ r. ⌜ Filtered n k (BoundCut lower (now (masks .entry)) v end) (λ M. Settled M v end)
         (now (masks .entry)) (now (cells .entry)) (now (trail .entry)) top (now (masks .exit)) (now (cells .exit)) (now (trail .exit)) r ⌝ }
 {
-    let mut h = top;
-    for s in 0..end {
-        if !is_free(masks, s, v) {
-            continue;
-        }
-        let o = settle_slot(masks, cells, trail, n, k, h, s, v, lower);
-        match o {
-            Outcome::Live(x) => {
-                h = x;
-            }
-            Outcome::Dead(x) => {
-                return Outcome::Dead(x);
-            }
-        }
+    if lower {
+        return fix_free(masks, cells, trail, n, k, top, v, end);
     }
-    Outcome::Live(h)
+    strike_free(masks, cells, trail, n, k, top, v, end)
 }
 
-// Cuts the slot as a met bound of v asks: to v where it is the lower one, and v out of it where it is the upper one.
-fn settle_slot(
+// Where the lower bound of v is met at `end`: fixes each free slot before it to v.
+fn fix_free(
     masks: &mut [u32],
     cells: &mut [u16],
     trail: &mut [u8],
     n: usize,
     k: u32,
     top: usize,
-    slot: usize,
     v: u32,
-    lower: bool,
+    end: usize,
 ) -> Outcome
-    requires { ⌜ Ready (now masks) (now cells) (now trail) n k top slot v ⌝ }
-    ensures { λ r. ⌜ Filtered n k (SlotCut lower slot v) (SlotCut lower slot v)
+    requires { ⌜ Pruning (now masks) (now cells) (now trail) n k top v end ⌝ }
+    ensures { λ r. ⌜ Filtered n k (BoundCut true (now (masks .entry)) v end) (λ M. Settled M v end)
         (now (masks .entry)) (now (cells .entry)) (now (trail .entry)) top (now (masks .exit)) (now (cells .exit)) (now (trail .exit)) r ⌝ }
 {
-    if lower {
-        return fix(masks, cells, trail, n, k, top, slot, v);
+    let mut h = top;
+    for s in 0..end {
+        if !is_free(masks, s, v) {
+            continue;
+        }
+        match fix(masks, cells, trail, n, k, h, s, v) {
+            Outcome::Live(x) => h = x,
+            Outcome::Dead(x) => return Outcome::Dead(x),
+        }
     }
-    strike(masks, cells, trail, n, k, top, slot, v)
+    Outcome::Live(h)
+}
+
+// Where the upper bound of v is met at `end`: strikes v from each free slot before it.
+fn strike_free(
+    masks: &mut [u32],
+    cells: &mut [u16],
+    trail: &mut [u8],
+    n: usize,
+    k: u32,
+    top: usize,
+    v: u32,
+    end: usize,
+) -> Outcome
+    requires { ⌜ Pruning (now masks) (now cells) (now trail) n k top v end ⌝ }
+    ensures { λ r. ⌜ Filtered n k (BoundCut false (now (masks .entry)) v end) (λ M. Settled M v end)
+        (now (masks .entry)) (now (cells .entry)) (now (trail .entry)) top (now (masks .exit)) (now (cells .exit)) (now (trail .exit)) r ⌝ }
+{
+    let mut h = top;
+    for slot in 0..end {
+        if !is_free(masks, slot, v) {
+            continue;
+        }
+        if !is_wide(masks, slot) {
+            match strike(masks, cells, trail, n, k, h, slot, v) {
+                Outcome::Live(x) => h = x,
+                Outcome::Dead(x) => return Outcome::Dead(x),
+            }
+            continue;
+        }
+        let low = thin(masks, cells, trail, n, k, h, slot, v);
+        if low.clash {
+            return Outcome::Dead(h);
+        }
+        h += 1;
+        if low.reach == 0 {
+            continue;
+        }
+        match fix_free(masks, cells, trail, n, k, h, v, low.reach) {
+            Outcome::Live(x) => h = x,
+            Outcome::Dead(x) => return Outcome::Dead(x),
+        }
+    }
+    Outcome::Live(h)
 }
 
 // The spent corner of a row: the last one without slack, or 0.
@@ -233,21 +299,59 @@ fn strike_one(
     Removal::Made(low.reach, high.reach, w)
 }
 
-// Lowers the slack of a row by one after the slot.
+// Strikes v from a slot that has it and at least two others, so that none gets to be the only one; or finds that no stable list allows it, and
+// changes nothing.
+fn thin(
+    masks: &mut [u32],
+    cells: &mut [u16],
+    trail: &mut [u8],
+    n: usize,
+    k: u32,
+    top: usize,
+    slot: usize,
+    v: u32,
+) -> Descent
+    requires { ⌜ Ready (now masks) (now cells) (now trail) n k top slot v × HasAt (now masks) slot v × (2 < ones (getD (now masks) slot 0)) ⌝ }
+    ensures { λ r. ⌜ Thinned n k (now (masks .entry)) (now (cells .entry)) (now (trail .entry)) top
+        (now (masks .exit)) (now (cells .exit)) (now (trail .exit)) slot v (r .reach) (r .clash) ⌝ }
+{
+    let fell = fall_row(cells, v, n, slot);
+    if fell.clash {
+        return fell;
+    }
+    take_out(masks, slot, v);
+    push(trail, n, top, slot, v, fell.note);
+    fell
+}
+
+// Lowers the slack of a row by one after the slot; where the slot is before the spent corner that is a clash, and the cells stay.
 fn fall_row(cells: &mut [u16], row: u32, n: usize, slot: usize) -> Descent
     requires { ⌜ (slot ≤ n) × (row * (n + 1) + n < length (now cells)) × (n < 1024) ⌝ }
-    ensures { λ r. ⌜ Lent (row * (n + 1)) (n + 1) (λ a b. Dropped n slot a b (r .reach) (r .note)) (now (cells .entry)) (now (cells .exit)) ⌝ }
+    ensures { λ r. ⌜ Lent (row * (n + 1)) (n + 1) (λ a b. Dropped n slot a b (r .reach) (r .note)) (now (cells .entry)) (now (cells .exit))
+        × Told slot (getD (now (cells .entry)) (row * (n + 1)) 0) (now (cells .entry)) (now (cells .exit)) (r .clash) ⌝ }
 {
     let hit = segments::fall_in(cells, row as usize * (n + 1), n, slot);
     match hit {
         segments::Hit::Quiet(x) => {
-            return Descent { reach: 0, note: x };
+            return Descent {
+                clash: false,
+                reach: 0,
+                note: x,
+            };
         }
         segments::Hit::Clash => {
-            return Descent { reach: 0, note: 0 };
+            return Descent {
+                clash: true,
+                reach: 0,
+                note: 0,
+            };
         }
         segments::Hit::Reached(t, x) => {
-            return Descent { reach: t, note: x };
+            return Descent {
+                clash: false,
+                reach: t,
+                note: x,
+            };
         }
     }
 }
@@ -272,12 +376,28 @@ fn is_free(masks: &[u32], slot: usize, v: u32) -> bool
     !domains::is_single(m)
 }
 
+// Whether the slot has more than two values.
+fn is_wide(masks: &[u32], slot: usize) -> bool
+    requires { ⌜ slot < length (now masks) ⌝ }
+    ensures { λ r. ⌜ r ≡ ltb 2 (ones (getD (now (masks .entry)) slot 0)) ⌝ }
+{
+    domains::is_wide(masks[slot])
+}
+
 // What the slot has without v.
 fn without_value(masks: &[u32], slot: usize, v: u32) -> u32
     requires { ⌜ (slot < length (now masks)) × (v < 32) ⌝ }
     ensures { λ r. ⌜ r ≡ clearBit (getD (now (masks .entry)) slot 0) v ⌝ }
 {
     domains::without(masks[slot], v)
+}
+
+// Takes v, which the slot has, out of it.
+fn take_out(masks: &mut [u32], slot: usize, v: u32)
+    requires { ⌜ (slot < length (now masks)) × (v < 32) × HasAt (now masks) slot v ⌝ }
+    ensures { λ _. ⌜ now (masks .exit) ≡ set (now (masks .entry)) slot (clearBit (getD (now (masks .entry)) slot 0) v) ⌝ }
+{
+    masks[slot] = domains::less(masks[slot], v);
 }
 
 fn store(masks: &mut [u32], slot: usize, m: u32)

@@ -11,9 +11,9 @@ use native.Mathlib.Omega.{arith}
 use lib.Count.{ones}
 use lib.ListN.{length, getD, set, length-set}
 use lib.Seq.{getD-set-same, getD-set-other, set-getD, set-set}
-use Rattle.domains.specs.Mask.{Has, Fixed, clearBit}
+use Rattle.domains.specs.Mask.{clearBit}
 use Rattle.domains.specs.Masks.{HasAt, FixedAt, Subset}
-use Rattle.domains.proofs.MaskLaws.{testBit-le, testBit-clearBit-same, testBit-put-other, ones-subset, fixed-single}
+use Rattle.domains.proofs.MaskLaws.{clearBit-has, testBit-clearBit-same, testBit-put-other, ones-subset, fixed-single}
 use Rattle.domains.proofs.MasksLaws.{subset-refl, subset-trans}
 use Rattle.settling_model.specs.Settled.{LacksAt}
 use Rattle.filter_model.specs.Trail.{slotAt, valueAt, noteAt, written, putIn, RowRaised, TakenBack, Restores, Kept, Trailed}
@@ -47,10 +47,6 @@ module _ (n : ℕ) (trail : List ℕ) (i slot v x : ℕ) where
         (omega (arith, length-set trail (n + 3 * i) slot, length-set (set trail (n + 3 * i) slot) (n + 3 * i + 1) v))
 
 -- ---- putIn
-clearBit-has : (m v : ℕ) → Has m v → clearBit m v + 2 ^ v ≡ m
-unfolding clearBit
-clearBit-has m v has = rw has (omega (arith, rw has at (testBit-le m v)))
-
 -- what a strike takes out is put back
 pub putIn-strike : (M : List ℕ) (slot v : ℕ) → slot < length M → HasAt M slot v → putIn (set M slot (clearBit (getD M slot 0) v)) slot v ≡ M
 putIn-strike M slot v inside has =

@@ -23,7 +23,7 @@ use Rattle.segments.specs.Fell.{Answer, Fell}
 
 module _ (n slot : ℕ) (l : List ℕ) where
   pub fell-clash : slot < getD l 0 0 → Fell n slot l l Clash
-  fell-clash slot<z = record { size = refl; inside = tt; answer = λ C f held. clashed slot held slot<z; reverses = slot<z }
+  fell-clash slot<z = record { size = refl; inside = tt; answer = λ C f held. clashed slot held slot<z; reverses = slot<z; barred = refl }
 
   module _ (slot≤n : slot ≤ n) (n<len : n < length l) (free : getD l 0 0 ≤ slot) {t : ℕ} (found : t ≡ nextOf n slot l) where
     pub fell-none : n < t → Fell n slot l l (Quiet 0)
@@ -33,6 +33,7 @@ module _ (n slot : ℕ) (l : List ℕ) where
           inside = tt;
           answer = λ C f held. quiet-none slot held free slot≤n n<len found n<t;
           reverses = reversal-none n slot l slot≤n free found n<t;
+          barred = free;
         }
 
     module _ (t≤n : t ≤ n) where
@@ -44,6 +45,7 @@ module _ (n slot : ℕ) (l : List ℕ) where
             inside = tt;
             answer = λ C f held. rw (stored, d-is) (quiet-less slot held free slot≤n n<len found t≤n more′);
             reverses = rw (stored, d-is) (reversal-less n slot l slot≤n free found t≤n n<len more′);
+            barred = free;
           }
 
       module _ (last : getD l t 0 ≡ 0) {p : ℕ} (prev : Previous slot (gaps l) p) (l′ : List ℕ) where
@@ -56,6 +58,7 @@ module _ (n slot : ℕ) (l : List ℕ) where
               reverses = rw stored
                   (reversal-join n slot l slot≤n free found t≤n n<len last p (1024 + (t - p - 1)) (prev .before) 0<p
                   (end-gaps l p 0<p (omega (arith, prev .before)) (prev .stands 0<p)));
+              barred = free;
             }
 
         pub fell-spend : {z : ℕ} → p ≡ 0 → z ≡ getD l 0 0 → l′ ≡ set (set l t 1024) 0 t → Fell n slot l l′ (Reached t z)
@@ -65,6 +68,7 @@ module _ (n slot : ℕ) (l : List ℕ) where
               inside = t≤n;
               answer = λ C f held. rw stored (reached-spend slot held free slot≤n n<len found t≤n last prev none);
               reverses = rw (stored, z-is) (reversal-spend n slot l slot≤n free found t≤n n<len last);
+              barred = free;
             }
 
 -- ---- Answer

@@ -1,10 +1,11 @@
--- The laws of specs/Part.antt: a part that was lent and came back (`lent`), a part that lies apart from it (`lent-apart`), and a part to which a
+-- The laws of specs/Part.antt: a part that was lent and came back (`lent`), as it was (`lent-same`), a part that lies apart from it (`lent-apart`), and a part to which a
 -- function was applied (`over-lent`), or is to be applied to have the list as it was (`over-back`).
 -- No contract cites this file. Assumes nothing.
 use mathlib.Core.Path.{_≡_, refl, sym, ap, _∙_}
-use mathlib.Core.Logic.{_⊎_, ⊎-elim}
+use mathlib.Core.Logic.{_⊎_, ⊎-elim, dite}
 use mathlib.Core.List.{List, _++_}
 use Prim.Native.Nat.{ℕ, _+_, _-_, _≤_, _<_}
+use native.Mathlib.Decide.{decLt}
 use native.Mathlib.Omega.{arith}
 use lib.ListN.{length, getD, take, drop, length-drop}
 use lib.Seq.{take-at, drop-at, length-take-le, getD-take, getD-drop, drop-drop, ext-getD}
@@ -68,6 +69,20 @@ lent-apart {l = l} {l′ = l′} came a j inside apart =
     part-at a j l′ i i<j
     ∙ ⊎-elim (λ left. came .before (a + i) (omega arith)) (λ right. came .after (a + i) (omega arith)) apart
     ∙ sym (part-at a j l i i<j))
+
+-- a part that came back as it was leaves the list as it was
+pub lent-same : {base k : ℕ} {l l′ : List ℕ} → Lent base k (λ a b. b ≡ a) l l′ → l′ ≡ l
+lent-same {base} {k} {l} {l′} came =
+    ext-getD 0 l′ l (came .size)
+    (λ i i<len.
+    dite (decLt i base) (λ before. came .before i before)
+    (λ from.
+    dite (decLt i (base + k))
+    (λ inside.
+    let at : base + (i - base) ≡ i = omega arith in
+    ap (λ (p : ℕ). getD l′ p 0) (sym at) ∙ sym (part-at base k l′ (i - base) (omega arith))
+    ∙ ap (λ (m : List ℕ). getD m (i - base) 0) (came .does) ∙ part-at base k l (i - base) (omega arith) ∙ ap (λ (p : ℕ). getD l p 0) at)
+    (λ past. came .after i (omega arith))))
 
 -- ---- a function over a part
 

@@ -1,4 +1,4 @@
--- `filter::fall_row` meets its contract: the answer of `segments::fall_in`, read as a reach and a note (`dropped-quiet`, `dropped-clash`,
+-- `filter::fall_row` meets its contract: the answer of `segments::fall_in`, read as a clash, a reach and a note (`dropped-quiet`, `dropped-clash`,
 -- `dropped-reached`). Assumes nothing.
 use borrow.Author.Needs.{needs}
 use Rattle.filter.proofs.FallLaws.{dropped-quiet, dropped-clash, dropped-reached}
@@ -23,7 +23,7 @@ same-length c = search needs
 returns : tie.Need-returns
 returns c =
     let fall-in = c .before .before .before .before .before .fall-in in
-    dropped-quiet (fall-in .ensures) (c .before .hit .given .1)
+    dropped-quiet (c .before .before .before .before .before .before .before .before .args .row) (fall-in .ensures) (c .before .hit .given .1)
 
 enum-told : tie.Need-enum-told
 enum-told c = search needs
@@ -34,7 +34,7 @@ same-length-2 c = search needs
 returns-2 : tie.Need-returns-2
 returns-2 c =
     let fall-in = c .before .before .before .before .fall-in in
-    dropped-clash (fall-in .ensures) (c .enum-told .given .1)
+    dropped-clash (c .before .before .before .before .before .before .before .args .row) (fall-in .ensures) (c .enum-told .given .1)
 
 enum-known-hit-2 : tie.Need-enum-known-hit-2
 enum-known-hit-2 c = search needs
@@ -45,7 +45,7 @@ same-length-3 c = search needs
 returns-3 : tie.Need-returns-3
 returns-3 c =
     let fall-in = c .before .before .before .before .before .fall-in in
-    dropped-reached (fall-in .ensures) (c .before .hit2 .given .1)
+    dropped-reached (c .before .before .before .before .before .before .before .before .args .row) (fall-in .ensures) (c .before .hit2 .given .1)
 
 pub fall-row-spec : {M : Type 1} → statement M
 fall-row-spec =

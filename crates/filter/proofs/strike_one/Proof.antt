@@ -66,7 +66,7 @@ push-requires c κs =
     let pre = c .before .before .before .before .before .before .before .before .before .before .before .before .before .before .before .before .before
     .before .before .before .pre in
     let ready = pre .0 in
-    let low = low-note ready (pre .1) _ (without-value .ensures) (if1 .left) (spent .ensures) (if2 .left) (fall-row .ensures) in
+    let low = low-note ready (pre .1) _ (without-value .ensures) (if1 .left) (spent .ensures) (if2 .left) (fall-row .ensures .0) in
     (ready-room ready (pre .1), ready-byte ready, ready-value ready, omega (arith, low, ready-byte ready))
 
 same-length-4 : tie.Need-same-length-4
@@ -94,7 +94,7 @@ returns-3 c =
     let pre = c .before .before .before .before .before .before .before .before .before .before .before .before .before .before .before .before .before
     .before .before .before .before .before .before .pre in
     removed-plain (pre .0) (pre .1) _ (without-value .ensures) (if1 .left) (spent .ensures) (if2 .left)
-    (fall-row .ensures) (store .ensures) (push .ensures)
+    (fall-row .ensures .0) (store .ensures) (push .ensures)
     (eqb-false _ _ (sym (is-single .ensures) ∙ not-true _ (if3 .taken)))
 
 single-value-requires : tie.Need-single-value-requires
@@ -155,7 +155,7 @@ push-requires-2 c κs =
     let pre = c .before .before .before .before .before .before .before .before .before .before .before .before .before .before .before .before .before
     .before .before .before .before .before .before .before .pre in
     let ready = pre .0 in
-    let low = low-note ready (pre .1) _ (without-value .ensures) (if1 .left) (spent .ensures) (if2 .left) (fall-row2 .ensures) in
+    let low = low-note ready (pre .1) _ (without-value .ensures) (if1 .left) (spent .ensures) (if2 .left) (fall-row2 .ensures .0) in
     (ready-room ready (pre .1), ready-byte ready, ready-value ready, omega (arith, low, ready-byte ready))
 
 add-fall-row : tie.Need-add-fall-row
@@ -181,7 +181,7 @@ fall-row-requires-3 c κs =
     let left = sym (without-value .ensures) ∙ single-value .ensures .1 in
     let fits = world-row (ready .world) (args .k + single-value .result) _
     (omega (arith, left-in (args .slot) (args .v) (single-value .result) (ready .world) left)) refl in
-    (omega (arith, ready .slot-in), omega (arith, fits, fall-row2 .ensures .size), omega (arith, ready .world .slots-fit))
+    (omega (arith, ready .slot-in), omega (arith, fits, fall-row2 .ensures .0 .size), omega (arith, ready .world .slots-fit))
 
 note-fixed-requires : tie.Need-note-fixed-requires
 note-fixed-requires c κs =
@@ -206,8 +206,8 @@ note-fixed-requires c κs =
     let pre = c .before .before .before .before .before .before .before .before .before .before .before .before .before .before .before .before .before
     .before .before .before .before .before .before .before .before .before .before .before .before .before .before .before .pre in
     let ready = pre .0 in
-    let high = high-note ready (pre .1) _ (without-value .ensures) (if1 .left) (spent .ensures) (if2 .left) (fall-row2 .ensures)
-    (store2 .ensures) (push2 .ensures) _ (single-value .ensures .1) (spent2 .ensures) (if4 .left) (fall-row3 .ensures) in
+    let high = high-note ready (pre .1) _ (without-value .ensures) (if1 .left) (spent .ensures) (if2 .left) (fall-row2 .ensures .0)
+    (store2 .ensures) (push2 .ensures) _ (single-value .ensures .1) (spent2 .ensures) (if4 .left) (fall-row3 .ensures .0) in
     (omega (arith, ready-room ready (pre .1), ready .slot-in, push2 .kept .0), omega (arith, high, ready-byte ready))
 
 same-length-9 : tie.Need-same-length-9
@@ -244,8 +244,8 @@ returns-5 c =
     let pre = c .before .before .before .before .before .before .before .before .before .before .before .before .before .before .before .before .before
     .before .before .before .before .before .before .before .before .before .before .before .before .before .before .before .before .before .before
     .pre in
-    removed-single (pre .0) (pre .1) _ (without-value .ensures) (if1 .left) (spent .ensures) (if2 .left) (fall-row2 .ensures)
-    (store2 .ensures) (push2 .ensures) _ (single-value .ensures .1) (spent2 .ensures) (if4 .left) (fall-row3 .ensures) (note-fixed .ensures)
+    removed-single (pre .0) (pre .1) _ (without-value .ensures) (if1 .left) (spent .ensures) (if2 .left) (fall-row2 .ensures .0)
+    (store2 .ensures) (push2 .ensures) _ (single-value .ensures .1) (spent2 .ensures) (if4 .left) (fall-row3 .ensures .0) (note-fixed .ensures)
 
 pub strike-one-spec : {M : Type 1} → statement M
 strike-one-spec =

@@ -1,0 +1,1270 @@
+-- The proof of the cycle of calls of `fix`, `fix_free`, `follow`, `strike`, `strike_free` and `strike_other`. The measure is five times the values
+-- that are left, plus 1 for `strike_other`, 2 for `fix`, 3 for `fix_free` and `strike_free`, and 4 for `follow`. The invariant of each loop is
+-- `Filtered` for what was passed: the other values that are struck, the slots before which all is settled; each turn is `filtered-more`. A turn with
+-- `thin` is `thin-quiet` or `thin-followed`; `strike` is `strike-followed`, and `follow` is `follow-both` where both its loops run. Assumes nothing.
+use mathlib.Core.Path.{_≡_, sym, _∙_}
+use mathlib.Core.Bool.{Bool, true, false}
+use mathlib.Core.List.{List}
+use Prim.Native.Nat.{ℕ, _+_, _-_, _*_, _≤_, _<_}
+use native.Mathlib.Omega.{arith}
+use lib.ListN.{length}
+use borrow.Author.Needs.{needs}
+use borrow.Author.Tests.{eqb-true, eqb-false, ltb-true, ltb-false, not-true, not-false}
+use borrow.Fn.Kinds.{In}
+use borrow.Fn.PlainCycle.{Measures, is, falls, and}
+use Rattle.domains.specs.Masks.{total}
+use Rattle.settling_model.specs.Settled.{Settled}
+use Rattle.settling_model.proofs.SettledLaws.{settled-none}
+use Rattle.filter_model.specs.Cuts.{FixCut, BoundCut}
+use Rattle.filter_model.proofs.SpentLaws.{settled-before}
+use Rattle.filter_model.proofs.StateLaws.{world-moved, ready-slot, ready-value, ready-room}
+use Rattle.filter.specs.Filtered.{Filtered}
+use Rattle.filter.specs.declared.Outcome.the-variants.{Live}
+use Rattle.filter.proofs.FilteredLaws.{filtered-at, filtered-refl, filtered-more, filtered-goal, filtered-asks}
+use Rattle.filter.proofs.LoopLaws.{other-of, other-has, other-value, other-cut, other-last, other-none, total-less}
+use Rattle.filter.proofs.LoopLaws.{free-no, free-yes, free-concerned, settled-next, settled-cut}
+use Rattle.filter.proofs.StrikeLaws.{answer-contradicted, answer-removed, strike-absent, strike-contradicted, strike-followed}
+use Rattle.filter.proofs.StrikeLaws.{fix-absent, follow-none, follow-high, follow-low, follow-dead, follow-both, thin-quiet, thin-followed}
+use Rattle.filter.proofs.ThinLaws.{wide-other, thinned-clash, thinned-made}
+use Rattle.filter.proofs.fix.Reads as fix
+use Rattle.filter.proofs.fix.Kinds as fix-kinds
+use Rattle.filter.proofs.+fix+fix_free+follow+strike+strike_free+strike_other.Lts-fix as fix-lts
+use Rattle.filter.proofs.fix_free.Reads as fix-free
+use Rattle.filter.proofs.fix_free.Kinds as fix-free-kinds
+use Rattle.filter.proofs.+fix+fix_free+follow+strike+strike_free+strike_other.Lts-fix_free as fix-free-lts
+use Rattle.filter.proofs.follow.Reads as follow
+use Rattle.filter.proofs.follow.Kinds as follow-kinds
+use Rattle.filter.proofs.+fix+fix_free+follow+strike+strike_free+strike_other.Lts-follow as follow-lts
+use Rattle.filter.proofs.strike.Reads as strike
+use Rattle.filter.proofs.strike.Kinds as strike-kinds
+use Rattle.filter.proofs.+fix+fix_free+follow+strike+strike_free+strike_other.Lts-strike as strike-lts
+use Rattle.filter.proofs.strike_free.Reads as strike-free
+use Rattle.filter.proofs.strike_free.Kinds as strike-free-kinds
+use Rattle.filter.proofs.+fix+fix_free+follow+strike+strike_free+strike_other.Lts-strike_free as strike-free-lts
+use Rattle.filter.proofs.strike_other.Reads as strike-other
+use Rattle.filter.proofs.strike_other.Kinds as strike-other-kinds
+use Rattle.filter.proofs.+fix+fix_free+follow+strike+strike_free+strike_other.Lts-strike_other as strike-other-lts
+use Rattle.filter.proofs.has_value.Reads as has-value-reads
+use Rattle.filter.proofs.is_free.Reads as is-free-reads
+use Rattle.filter.proofs.is_wide.Reads as is-wide-reads
+use Rattle.domains.proofs.lowest.Reads as lowest-reads
+use Rattle.filter.proofs.strike_one.Reads as strike-one-reads
+use Rattle.filter.proofs.thin.Reads as thin-reads
+use Rattle.filter.proofs.without_value.Reads as without-value-reads
+use Rattle.filter.proofs.+fix+fix_free+follow+strike+strike_free+strike_other.{statement}
+use Rattle.filter.proofs.+fix+fix_free+follow+strike+strike_free+strike_other.Tie.{close}
+
+-- some of the slot's other values are struck
+record FixInv (n k slot v : ℕ) (masks₀ cells₀ trail₀ : List ℕ) (h₀ : ℕ) (masks cells trail : List ℕ) (h : ℕ) : Type 0 where
+  done : Filtered n k (FixCut slot v) (λ M. Unit {0}) masks₀ cells₀ trail₀ h₀ masks cells trail (Live h)
+
+-- all before s is settled
+record FreeInv (kind : Bool) (n k v end : ℕ) (masks₀ cells₀ trail₀ : List ℕ) (h₀ : ℕ) (masks cells trail : List ℕ) (h s : ℕ) : Type 0 where
+  done : Filtered n k (BoundCut kind masks₀ v end) (λ M. Settled M v s) masks₀ cells₀ trail₀ h₀ masks cells trail (Live h)
+  within : s ≤ end
+
+abbrev μ-fix : Measures 3 fix-kinds.ps ℕ
+μ-fix κs a = 5 * total (a .0 .now) + 2
+
+abbrev μ-fix-free : Measures 3 fix-free-kinds.ps ℕ
+μ-fix-free κs a = 5 * total (a .0 .now) + 3
+
+abbrev μ-follow : Measures 3 follow-kinds.ps ℕ
+μ-follow κs a = 5 * total (a .0 .now) + 4
+
+abbrev μ-strike : Measures 3 strike-kinds.ps ℕ
+μ-strike κs a = 5 * total (a .0 .now)
+
+abbrev μ-strike-free : Measures 3 strike-free-kinds.ps ℕ
+μ-strike-free κs a = 5 * total (a .0 .now) + 3
+
+abbrev μ-strike-other : Measures 3 strike-other-kinds.ps ℕ
+μ-strike-other κs a = 5 * total (a .0 .now) + 1
+
+abbrev fix-at : ℕ → In 3 fix-kinds.ps
+fix-at t = and 3 fix-kinds.ps (is 3 fix-kinds.ps μ-fix t) fix.Pre
+
+abbrev fix-below : ℕ → In 3 fix-kinds.ps
+fix-below t = and 3 fix-kinds.ps (falls 3 fix-kinds.ps _<_ μ-fix t) fix.Pre
+
+abbrev fix-free-at : ℕ → In 3 fix-free-kinds.ps
+fix-free-at t = and 3 fix-free-kinds.ps (is 3 fix-free-kinds.ps μ-fix-free t) fix-free.Pre
+
+abbrev fix-free-below : ℕ → In 3 fix-free-kinds.ps
+fix-free-below t = and 3 fix-free-kinds.ps (falls 3 fix-free-kinds.ps _<_ μ-fix-free t) fix-free.Pre
+
+abbrev follow-at : ℕ → In 3 follow-kinds.ps
+follow-at t = and 3 follow-kinds.ps (is 3 follow-kinds.ps μ-follow t) follow.Pre
+
+abbrev follow-below : ℕ → In 3 follow-kinds.ps
+follow-below t = and 3 follow-kinds.ps (falls 3 follow-kinds.ps _<_ μ-follow t) follow.Pre
+
+abbrev strike-at : ℕ → In 3 strike-kinds.ps
+strike-at t = and 3 strike-kinds.ps (is 3 strike-kinds.ps μ-strike t) strike.Pre
+
+abbrev strike-below : ℕ → In 3 strike-kinds.ps
+strike-below t = and 3 strike-kinds.ps (falls 3 strike-kinds.ps _<_ μ-strike t) strike.Pre
+
+abbrev strike-free-at : ℕ → In 3 strike-free-kinds.ps
+strike-free-at t = and 3 strike-free-kinds.ps (is 3 strike-free-kinds.ps μ-strike-free t) strike-free.Pre
+
+abbrev strike-free-below : ℕ → In 3 strike-free-kinds.ps
+strike-free-below t = and 3 strike-free-kinds.ps (falls 3 strike-free-kinds.ps _<_ μ-strike-free t) strike-free.Pre
+
+abbrev strike-other-at : ℕ → In 3 strike-other-kinds.ps
+strike-other-at t = and 3 strike-other-kinds.ps (is 3 strike-other-kinds.ps μ-strike-other t) strike-other.Pre
+
+abbrev strike-other-below : ℕ → In 3 strike-other-kinds.ps
+strike-other-below t = and 3 strike-other-kinds.ps (falls 3 strike-other-kinds.ps _<_ μ-strike-other t) strike-other.Pre
+
+abbrev fix-calls : ℕ → fix-lts.Claims
+fix-calls t = (
+  is-wide-reads.Asked,
+  is-wide-reads.Learnt,
+  without-value-reads.Asked,
+  without-value-reads.Learnt,
+  lowest-reads.Asked,
+  lowest-reads.Learnt,
+  thin-reads.Asked,
+  thin-reads.Learnt,
+  fix-free-below t,
+  fix-free.Post,
+  strike-other-below t,
+  strike-other.Post,
+)
+
+abbrev fix-free-calls : ℕ → fix-free-lts.Claims
+fix-free-calls t = (is-free-reads.Asked, is-free-reads.Learnt, fix-below t, fix.Post)
+
+abbrev follow-calls : ℕ → follow-lts.Claims
+follow-calls t = (strike-free-below t, strike-free.Post, fix-free-below t, fix-free.Post)
+
+abbrev strike-calls : ℕ → strike-lts.Claims
+strike-calls t = (has-value-reads.Asked, has-value-reads.Learnt, strike-one-reads.Asked, strike-one-reads.Learnt, follow-below t, follow.Post)
+
+abbrev strike-free-calls : ℕ → strike-free-lts.Claims
+strike-free-calls t = (
+  is-free-reads.Asked,
+  is-free-reads.Learnt,
+  is-wide-reads.Asked,
+  is-wide-reads.Learnt,
+  strike-below t,
+  strike.Post,
+  thin-reads.Asked,
+  thin-reads.Learnt,
+  fix-free-below t,
+  fix-free.Post,
+)
+
+abbrev strike-other-calls : ℕ → strike-other-lts.Claims
+strike-other-calls t = (
+  has-value-reads.Asked,
+  has-value-reads.Learnt,
+  without-value-reads.Asked,
+  without-value-reads.Learnt,
+  lowest-reads.Asked,
+  lowest-reads.Learnt,
+  strike-below t,
+  strike.Post,
+)
+
+abbrev fix-Inv-loop : fix-lts.InvT-loop
+fix-Inv-loop masks₀ cells₀ trail₀ n k top slot v h₀ masks cells trail h =
+    FixInv n k slot v masks₀ cells₀ trail₀ h₀ masks cells trail h
+
+abbrev fix-μ-loop : fix-lts.MeasureT-loop
+fix-μ-loop masks₀ cells₀ trail₀ n k top slot v h₀ masks cells trail h = total masks
+
+fix-loop-holds : (t : ℕ) → fix-lts.Need-loop-holds (fix-calls t) (fix-at t) fix.Post fix-Inv-loop fix-μ-loop
+fix-loop-holds t c = record { done = filtered-refl _ _ _ _ tt }
+
+fix-is-wide-requires : (t : ℕ) → fix-lts.Need-is-wide-requires (fix-calls t) (fix-at t) fix.Post fix-Inv-loop fix-μ-loop
+fix-is-wide-requires t c κs =
+    let ready = c .before .before .before .before .before .pre .1 in
+    omega (arith, c .before .loop .inv .done .moved .within .len, ready .slot-in, ready .world .slots)
+
+fix-without-value-requires : (t : ℕ) → fix-lts.Need-without-value-requires (fix-calls t) (fix-at t) fix.Post fix-Inv-loop fix-μ-loop
+fix-without-value-requires t c κs =
+    let ready = c .before .before .before .before .before .before .before .before .pre .1 in (
+      omega (arith, c .before .before .before .before .loop .inv .done .moved .within .len, ready .slot-in, ready .world .slots),
+      omega (
+        arith,
+        ready
+            .value-in,
+        ready .world .values-fit,
+      ),
+    )
+
+fix-lowest-requires : (t : ℕ) → fix-lts.Need-lowest-requires (fix-calls t) (fix-at t) fix.Post fix-Inv-loop fix-μ-loop
+fix-lowest-requires t c κs =
+    wide-other _ _ (ltb-true 2 _ (sym (c .before .before .before .is-wide .ensures) ∙ c .before .before .if1 .taken)) (c .without-value .ensures)
+
+fix-thin-requires : (t : ℕ) → fix-lts.Need-thin-requires (fix-calls t) (fix-at t) fix.Post fix-Inv-loop fix-μ-loop
+fix-thin-requires t c κs =
+    let lowest = c .before .before .before .lowest in
+    let args = c .before .before .before .before .before .before .before .before .before .before .before .before .before .args in
+    let loop = c .before .before .before .before .before .before .before .before .before .loop in
+    let done = loop .inv .done in
+    let other = other-of (loop .masks) (args .slot) (args .v) (lowest .result) (c .before .before .before .before .without-value .ensures) (lowest
+    .ensures .1 .has) in
+    let pre = c .before .before .before .before .before .before .before .before .before .before .before .before .before .pre in
+    let world = world-moved (pre .1 .world) (done .moved) in (
+      record { world = world; slot-in = pre .1 .slot-in; value-in = other-value other world },
+      other-has other,
+      ltb-true 2 _ (sym (c .before .before .before .before .before .before .before .is-wide .ensures) ∙ c .before .before .before .before .before
+          .before .if1 .taken),
+    )
+
+fix-returns : (t : ℕ) → fix-lts.Need-returns (fix-calls t) (fix-at t) fix.Post fix-Inv-loop fix-μ-loop
+fix-returns t c =
+    let lowest = c .before .before .before .before .before .before .before .before .before .before .before .lowest in
+    let args = c .before .before .before .before .before .before .before .before .before .before .before .before .before .before .before .before
+    .before .before .before .before .before .args in
+    let loop = c .before .before .before .before .before .before .before .before .before .before .before .before .before .before .before .before
+    .before .loop in
+    let done = loop .inv .done in
+    let other = other-of (loop .masks) (args .slot) (args .v) (lowest .result) (c .before .before .before .before .before .before .before .before
+    .before .before .before .before .without-value .ensures) (lowest .ensures .1 .has) in
+    filtered-more done (strike-contradicted {G = λ (M : List ℕ). Unit {0}} (thinned-clash _ _ _ _ _ (loop .h) _ _ _ _ _ _ (c .before .before .before
+    .before .before .before .before .thin .ensures) (c .if2 .taken))) (other-cut other) (λ no. absurd no)
+
+fix-add-h : (t : ℕ) → fix-lts.Need-add-h (fix-calls t) (fix-at t) fix.Post fix-Inv-loop fix-μ-loop
+fix-add-h t c =
+    let lowest = c .before .before .before .before .before .before .before .before .before .before .before .lowest in
+    let args = c .before .before .before .before .before .before .before .before .before .before .before .before .before .before .before .before
+    .before .before .before .before .before .args in
+    let loop = c .before .before .before .before .before .before .before .before .before .before .before .before .before .before .before .before
+    .before .loop in
+    let done = loop .inv .done in
+    let other = other-of (loop .masks) (args .slot) (args .v) (lowest .result) (c .before .before .before .before .before .before .before .before
+    .before .before .before .before .without-value .ensures) (lowest .ensures .1 .has) in
+    let pre = c .before .before .before .before .before .before .before .before .before .before .before .before .before .before .before .before
+    .before .before .before .before .before .pre in
+    let world = world-moved (pre .1 .world) (done .moved) in
+    let room = ready-room (record { world = world; slot-in = pre .1 .slot-in; value-in = other-value other world }) (other-has other) in
+    let size : length (loop .trail) ≡ length (args .trail .now) = done .moved .trailed .size in
+    omega (
+      arith,
+      room,
+      size,
+      c .before .before .before .before .before .before .before .before .before .before .before .before .before .before
+          .before .before .before .before .before .before .before .good,
+    )
+
+fix-loop-less : (t : ℕ) → fix-lts.Need-loop-less (fix-calls t) (fix-at t) fix.Post fix-Inv-loop fix-μ-loop
+fix-loop-less t c =
+    let loop = c .before .before .before .before .before .before .before .before .before .before .before .before .before .before .before .before
+    .before .before .before .loop in
+    let removed = thinned-made _ _ _ _ _ (loop .h) _ _ _ _ _ _ (c .before .before .before .before .before .before .before .before .before .thin
+    .ensures) (c .before .before .if2 .left) in
+    omega (arith, removed .moved .height)
+
+fix-loop-again : (t : ℕ) → fix-lts.Need-loop-again (fix-calls t) (fix-at t) fix.Post fix-Inv-loop fix-μ-loop
+fix-loop-again t c =
+    let lowest = c .before .before .before .before .before .before .before .before .before .before .before .before .before .lowest in
+    let args = c .before .before .before .before .before .before .before .before .before .before .before .before .before .before .before .before
+    .before .before .before .before .before .before .before .args in
+    let loop = c .before .before .before .before .before .before .before .before .before .before .before .before .before .before .before .before
+    .before .before .before .loop in
+    let done = loop .inv .done in
+    let other = other-of (loop .masks) (args .slot) (args .v) (lowest .result) (c .before .before .before .before .before .before .before .before
+    .before .before .before .before .before .before .without-value .ensures) (lowest .ensures .1 .has) in
+    let removed = thinned-made _ _ _ _ _ (loop .h) _ _ _ _ _ _ (c .before .before .before .before .before .before .before .before .before .thin
+    .ensures) (c .before .before .if2 .left) in
+    record { done = filtered-more done (thin-quiet removed (c .if3 .taken)) (other-cut other) (λ live before cut. tt) }
+
+fix-fix-free-requires : (t : ℕ) → fix-lts.Need-fix-free-requires (fix-calls t) (fix-at t) fix.Post fix-Inv-loop fix-μ-loop
+fix-fix-free-requires t c κs =
+    let lowest = c .before .before .before .before .before .before .before .before .before .before .before .before .before .before .before .before
+    .lowest in
+    let args = c .before .before .before .before .before .before .before .before .before .before .before .before .before .before .before .before
+    .before .before .before .before .before .before .before .before .before .before .args in
+    let loop = c .before .before .before .before .before .before .before .before .before .before .before .before .before .before .before .before
+    .before .before .before .before .before .before .loop in
+    let done = loop .inv .done in
+    let other = other-of (loop .masks) (args .slot) (args .v) (lowest .result) (c .before .before .before .before .before .before .before .before
+    .before .before .before .before .before .before .before .before .before .without-value .ensures) (lowest .ensures .1 .has) in
+    let pre = c .before .before .before .before .before .before .before .before .before .before .before .before .before .before .before .before
+    .before .before .before .before .before .before .before .before .before .before .pre in
+    let world = world-moved (pre .1 .world) (done .moved) in
+    let removed = thinned-made _ _ _ _ _ (loop .h) _ _ _ _ _ _ (c .before .before .before .before .before .before .before .before .before .before
+    .before .before .thin .ensures) (c .before .before .before .before .before .if2 .left) in (
+      omega (arith, removed .moved .height, total-less (done .moved .within), pre .0),
+      record { world = world-moved world (removed .moved); end-in = removed .low-in; value-in = other-value other world },
+    )
+
+fix-enum-known-x : (t : ℕ) → fix-lts.Need-enum-known-x (fix-calls t) (fix-at t) fix.Post fix-Inv-loop fix-μ-loop
+fix-enum-known-x t c = search needs
+
+fix-loop-less-2 : (t : ℕ) → fix-lts.Need-loop-less-2 (fix-calls t) (fix-at t) fix.Post fix-Inv-loop fix-μ-loop
+fix-loop-less-2 t c =
+    let fix-free = c .before .before .before .before .before .before .before .before .before .fix-free in
+    let loop = c .before .before .before .before .before .before .before .before .before .before .before .before .before .before .before .before
+    .before .before .before .before .before .before .before .before .before .before .before .before .before .before .before .before .loop in
+    let removed = thinned-made _ _ _ _ _ (loop .h) _ _ _ _ _ _ (c .before .before .before .before .before .before .before .before .before .before
+    .before .before .before .before .before .before .before .before .before .before .before .before .thin .ensures) (c .before .before .before
+    .before .before .before .before .before .before .before .before .before .before .before .before .if2 .left) in
+    omega (arith, removed .moved .height, total-less (fix-free .ensures .moved .within))
+
+fix-loop-again-2 : (t : ℕ) → fix-lts.Need-loop-again-2 (fix-calls t) (fix-at t) fix.Post fix-Inv-loop fix-μ-loop
+fix-loop-again-2 t c =
+    let lowest = c .before .before .before .before .before .before .before .before .before .before .before .before .before .before .before .before
+    .before .before .before .before .before .before .before .before .before .before .lowest in
+    let args = c .before .before .before .before .before .before .before .before .before .before .before .before .before .before .before .before
+    .before .before .before .before .before .before .before .before .before .before .before .before .before .before .before .before .before .before
+    .before .before .args in
+    let loop = c .before .before .before .before .before .before .before .before .before .before .before .before .before .before .before .before
+    .before .before .before .before .before .before .before .before .before .before .before .before .before .before .before .before .loop in
+    let done = loop .inv .done in
+    let other = other-of (loop .masks) (args .slot) (args .v) (lowest .result) (c .before .before .before .before .before .before .before .before
+    .before .before .before .before .before .before .before .before .before .before .before .before .before .before .before .before .before .before
+    .before .without-value .ensures) (lowest .ensures .1 .has) in
+    let removed = thinned-made _ _ _ _ _ (loop .h) _ _ _ _ _ _ (c .before .before .before .before .before .before .before .before .before .before
+    .before .before .before .before .before .before .before .before .before .before .before .before .thin .ensures) (c .before .before .before
+    .before .before .before .before .before .before .before .before .before .before .before .before .if2 .left) in
+    record {
+      done = filtered-more done (filtered-at (c .before .x .given .1) (thin-followed removed (c .before .before .before .before .before
+          .before .before .before .before .fix-free .ensures))) (other-cut other) (λ live before cut. tt);
+    }
+
+fix-enum-known-x-2 : (t : ℕ) → fix-lts.Need-enum-known-x-2 (fix-calls t) (fix-at t) fix.Post fix-Inv-loop fix-μ-loop
+fix-enum-known-x-2 t c = search needs
+
+fix-returns-2 : (t : ℕ) → fix-lts.Need-returns-2 (fix-calls t) (fix-at t) fix.Post fix-Inv-loop fix-μ-loop
+fix-returns-2 t c =
+    let lowest = c .before .before .before .before .before .before .before .before .before .before .before .before .before .before .before .before
+    .before .before .before .before .before .before .before .before .before .before .lowest in
+    let args = c .before .before .before .before .before .before .before .before .before .before .before .before .before .before .before .before
+    .before .before .before .before .before .before .before .before .before .before .before .before .before .before .before .before .before .before
+    .before .before .args in
+    let loop = c .before .before .before .before .before .before .before .before .before .before .before .before .before .before .before .before
+    .before .before .before .before .before .before .before .before .before .before .before .before .before .before .before .before .loop in
+    let done = loop .inv .done in
+    let other = other-of (loop .masks) (args .slot) (args .v) (lowest .result) (c .before .before .before .before .before .before .before .before
+    .before .before .before .before .before .before .before .before .before .before .before .before .before .before .before .before .before .before
+    .before .without-value .ensures) (lowest .ensures .1 .has) in
+    let removed = thinned-made _ _ _ _ _ (loop .h) _ _ _ _ _ _ (c .before .before .before .before .before .before .before .before .before .before
+    .before .before .before .before .before .before .before .before .before .before .before .before .thin .ensures) (c .before .before .before
+    .before .before .before .before .before .before .before .before .before .before .before .before .if2 .left) in
+    filtered-more done (filtered-at (c .before .x2 .given .1) (thin-followed removed (c .before .before .before .before .before .before .before
+    .before .before .fix-free .ensures))) (other-cut other) (λ no. absurd no)
+
+fix-strike-other-requires : (t : ℕ) → fix-lts.Need-strike-other-requires (fix-calls t) (fix-at t) fix.Post fix-Inv-loop fix-μ-loop
+fix-strike-other-requires t c κs =
+    let done = c .before .before .before .before .before .before .loop .inv .done in
+    let pre = c .before .before .before .before .before .before .before .before .before .before .pre in
+    let world = world-moved (pre .1 .world) (done .moved) in (
+      omega (arith, total-less (done .moved .within), pre .0),
+      (
+        record { world = world; slot-in = pre .1 .slot-in; value-in = pre .1 .value-in },
+        ltb-false 2 _ (sym (c .before .before .before .before .is-wide .ensures) ∙ c .before .before .before .if1 .left),
+      ),
+    )
+
+fix-returns-3 : (t : ℕ) → fix-lts.Need-returns-3 (fix-calls t) (fix-at t) fix.Post fix-Inv-loop fix-μ-loop
+fix-returns-3 t c =
+    filtered-more (c .before .before .before .before .before .before .before .before .before .before .before .before .before .loop .inv .done) (c
+    .before .before .before .before .before .before .strike-other .ensures) (λ N cut. cut) (λ live before fixed. fixed)
+
+fix-same-length : (t : ℕ) → fix-lts.Need-same-length (fix-calls t) (fix-at t) fix.Post fix-Inv-loop fix-μ-loop
+fix-same-length t c = fix-returns t c .moved .within .len
+
+fix-same-length-2 : (t : ℕ) → fix-lts.Need-same-length-2 (fix-calls t) (fix-at t) fix.Post fix-Inv-loop fix-μ-loop
+fix-same-length-2 t c = fix-returns t c .moved .cells-size
+
+fix-same-length-3 : (t : ℕ) → fix-lts.Need-same-length-3 (fix-calls t) (fix-at t) fix.Post fix-Inv-loop fix-μ-loop
+fix-same-length-3 t c = fix-returns t c .moved .trailed .size
+
+fix-same-length-4 : (t : ℕ) → fix-lts.Need-same-length-4 (fix-calls t) (fix-at t) fix.Post fix-Inv-loop fix-μ-loop
+fix-same-length-4 t c = fix-returns-2 t c .moved .within .len
+
+fix-same-length-5 : (t : ℕ) → fix-lts.Need-same-length-5 (fix-calls t) (fix-at t) fix.Post fix-Inv-loop fix-μ-loop
+fix-same-length-5 t c = fix-returns-2 t c .moved .cells-size
+
+fix-same-length-6 : (t : ℕ) → fix-lts.Need-same-length-6 (fix-calls t) (fix-at t) fix.Post fix-Inv-loop fix-μ-loop
+fix-same-length-6 t c = fix-returns-2 t c .moved .trailed .size
+
+fix-same-length-7 : (t : ℕ) → fix-lts.Need-same-length-7 (fix-calls t) (fix-at t) fix.Post fix-Inv-loop fix-μ-loop
+fix-same-length-7 t c = fix-returns-3 t c .moved .within .len
+
+fix-same-length-8 : (t : ℕ) → fix-lts.Need-same-length-8 (fix-calls t) (fix-at t) fix.Post fix-Inv-loop fix-μ-loop
+fix-same-length-8 t c = fix-returns-3 t c .moved .cells-size
+
+fix-same-length-9 : (t : ℕ) → fix-lts.Need-same-length-9 (fix-calls t) (fix-at t) fix.Post fix-Inv-loop fix-μ-loop
+fix-same-length-9 t c = fix-returns-3 t c .moved .trailed .size
+
+abbrev fix-free-Inv-loop : fix-free-lts.InvT-loop
+fix-free-Inv-loop masks₀ cells₀ trail₀ n k top v end h₀ s₀ masks cells trail h s =
+    FreeInv true n k v end masks₀ cells₀ trail₀ h₀ masks cells trail h s
+
+abbrev fix-free-μ-loop : fix-free-lts.MeasureT-loop
+fix-free-μ-loop masks₀ cells₀ trail₀ n k top v end h₀ s₀ masks cells trail h s = end - s
+
+fix-free-loop-holds : (t : ℕ) → fix-free-lts.Need-loop-holds (fix-free-calls t) (fix-free-at t) fix-free.Post fix-free-Inv-loop fix-free-μ-loop
+fix-free-loop-holds t c = record { done = filtered-refl _ _ _ _ (settled-none _ _); within = omega arith }
+
+fix-free-is-free-requires : (t : ℕ) → fix-free-lts.Need-is-free-requires (fix-free-calls t) (fix-free-at t) fix-free.Post fix-free-Inv-loop
+    fix-free-μ-loop
+fix-free-is-free-requires t c κs =
+    let pruning = c .before .before .before .before .before .before .pre .1 in (
+      omega (arith, c .before .loop-test .taken, c .before .before .loop .inv .done .moved .within .len, pruning .end-in, pruning .world .slots),
+      omega (arith, pruning .value-in, pruning .world .values-fit),
+    )
+
+fix-free-add-s : (t : ℕ) → fix-free-lts.Need-add-s (fix-free-calls t) (fix-free-at t) fix-free.Post fix-free-Inv-loop fix-free-μ-loop
+fix-free-add-s t c =
+    omega (arith, c .before .before .before .loop-test .taken, c .before .before .before .before .before .before .before .before .fits .end)
+
+fix-free-loop-less : (t : ℕ) → fix-free-lts.Need-loop-less (fix-free-calls t) (fix-free-at t) fix-free.Post fix-free-Inv-loop fix-free-μ-loop
+fix-free-loop-less t c = omega (arith, c .before .before .before .loop-test .taken)
+
+fix-free-loop-again : (t : ℕ) → fix-free-lts.Need-loop-again (fix-free-calls t) (fix-free-at t) fix-free.Post fix-free-Inv-loop fix-free-μ-loop
+fix-free-loop-again t c =
+    let loop = c .before .before .before .before .loop in
+    let fixed = free-no _ _ {r = c .before .is-free .result} (not-true _ (c .if1 .taken)) (c .before .is-free .ensures) in
+    record {
+      done = filtered-goal (loop .inv .done) (λ live settled. settled-next fixed settled);
+      within = omega (
+        arith,
+        c .before .before .before
+            .loop-test .taken,
+      );
+    }
+
+fix-free-fix-requires : (t : ℕ) → fix-free-lts.Need-fix-requires (fix-free-calls t) (fix-free-at t) fix-free.Post fix-free-Inv-loop fix-free-μ-loop
+fix-free-fix-requires t c κs =
+    let pre = c .before .before .before .before .before .before .before .before .before .before .before .pre in
+    let done = c .before .before .before .before .before .before .before .loop .inv .done in (
+      omega (arith, total-less (done .moved .within), pre .0),
+      record {
+        world = world-moved (pre .1 .world) (done .moved);
+        slot-in = omega (
+          arith,
+          c .before .before .before .before .before .before
+              .loop-test .taken,
+          pre .1 .end-in,
+        );
+        value-in = pre .1 .value-in;
+      },
+    )
+
+fix-free-enum-known-x : (t : ℕ) → fix-free-lts.Need-enum-known-x (fix-free-calls t) (fix-free-at t) fix-free.Post fix-free-Inv-loop fix-free-μ-loop
+fix-free-enum-known-x t c = search needs
+
+fix-free-enum-known-x-2 : (t : ℕ) → fix-free-lts.Need-enum-known-x-2 (fix-free-calls t) (fix-free-at t) fix-free.Post fix-free-Inv-loop
+    fix-free-μ-loop
+fix-free-enum-known-x-2 t c = search needs
+
+fix-free-returns : (t : ℕ) → fix-free-lts.Need-returns (fix-free-calls t) (fix-free-at t) fix-free.Post fix-free-Inv-loop fix-free-μ-loop
+fix-free-returns t c =
+    let loop = c .before .before .before .before .before .before .before .before .before .before .before .before .before .before .before .before
+    .before .loop in
+    let args = c .before .before .before .before .before .before .before .before .before .before .before .before .before .before .before .before
+    .before .before .before .before .before .args in
+    let done = loop .inv .done in
+    let free = free-yes _ _ {r = c .before .before .before .before .before .before .before .before .before .before .before .before .before .before
+    .is-free .result} (not-false _ (c .before .before .before .before .before .before .before .before .before .before .before .before .before .if1
+    .left)) (c .before .before .before .before .before .before .before .before .before .before .before .before .before .before .is-free .ensures) in
+    let asks = free-concerned true (done .moved .within) (loop .s) (args .v) (free .0) (free .1) in
+    filtered-more done (filtered-at (c .before .x2 .given .1) (c .before .before .before .before .before .before .before .before .before .fix
+    .ensures)) (λ N cut. cut .each (loop .s) (c .before .before .before .before .before .before .before .before .before .before .before .before
+    .before .before .before .before .loop-test .taken) asks) (λ no. absurd no)
+
+fix-free-add-s-2 : (t : ℕ) → fix-free-lts.Need-add-s-2 (fix-free-calls t) (fix-free-at t) fix-free.Post fix-free-Inv-loop fix-free-μ-loop
+fix-free-add-s-2 t c =
+    omega (
+      arith,
+      c .before .before .before .before .before .before .before .before .before .before .before .before .before .before .before .before
+          .loop-test .taken,
+      c .before .before .before .before .before .before .before .before .before .before .before .before .before .before .before
+          .before .before .before .before .before .before .fits .end,
+    )
+
+fix-free-loop-less-2 : (t : ℕ) → fix-free-lts.Need-loop-less-2 (fix-free-calls t) (fix-free-at t) fix-free.Post fix-free-Inv-loop fix-free-μ-loop
+fix-free-loop-less-2 t c =
+    omega (
+      arith,
+      c .before .before .before .before .before .before .before .before .before .before .before .before .before .before .before .before
+          .loop-test .taken,
+    )
+
+fix-free-loop-again-2 : (t : ℕ) → fix-free-lts.Need-loop-again-2 (fix-free-calls t) (fix-free-at t) fix-free.Post fix-free-Inv-loop fix-free-μ-loop
+fix-free-loop-again-2 t c =
+    let loop = c .before .before .before .before .before .before .before .before .before .before .before .before .before .before .before .before
+    .before .loop in
+    let args = c .before .before .before .before .before .before .before .before .before .before .before .before .before .before .before .before
+    .before .before .before .before .before .args in
+    let done = loop .inv .done in
+    let free = free-yes _ _ {r = c .before .before .before .before .before .before .before .before .before .before .before .before .before .before
+    .is-free .result} (not-false _ (c .before .before .before .before .before .before .before .before .before .before .before .before .before .if1
+    .left)) (c .before .before .before .before .before .before .before .before .before .before .before .before .before .before .is-free .ensures) in
+    let asks = free-concerned true (done .moved .within) (loop .s) (args .v) (free .0) (free .1) in
+    record {
+      done = filtered-more done (filtered-at (c .before .x .given .1) (c .before .before .before .before .before .before .before .before .before .fix
+          .ensures))
+          (λ N cut. cut .each (loop .s) (c .before .before .before .before .before .before .before .before .before .before .before .before .before
+          .before .before .before .loop-test .taken) asks)
+          (λ live. settled-cut true (args .v) (loop .s) (c .before .before .before .before .before .before .before .before .before .fix .ensures
+          .moved .within));
+      within = omega (
+        arith,
+        c .before .before .before .before .before .before .before .before .before .before .before .before .before .before
+            .before .before .loop-test .taken,
+      );
+    }
+
+fix-free-returns-2 : (t : ℕ) → fix-free-lts.Need-returns-2 (fix-free-calls t) (fix-free-at t) fix-free.Post fix-free-Inv-loop fix-free-μ-loop
+fix-free-returns-2 t c =
+    filtered-goal (c .before .loop .inv .done) (λ live settled. settled-before (c .loop-test .left) settled)
+
+fix-free-same-length : (t : ℕ) → fix-free-lts.Need-same-length (fix-free-calls t) (fix-free-at t) fix-free.Post fix-free-Inv-loop fix-free-μ-loop
+fix-free-same-length t c = fix-free-returns t c .moved .within .len
+
+fix-free-same-length-2 : (t : ℕ) → fix-free-lts.Need-same-length-2 (fix-free-calls t) (fix-free-at t) fix-free.Post fix-free-Inv-loop fix-free-μ-loop
+fix-free-same-length-2 t c = fix-free-returns t c .moved .cells-size
+
+fix-free-same-length-3 : (t : ℕ) → fix-free-lts.Need-same-length-3 (fix-free-calls t) (fix-free-at t) fix-free.Post fix-free-Inv-loop fix-free-μ-loop
+fix-free-same-length-3 t c = fix-free-returns t c .moved .trailed .size
+
+fix-free-same-length-4 : (t : ℕ) → fix-free-lts.Need-same-length-4 (fix-free-calls t) (fix-free-at t) fix-free.Post fix-free-Inv-loop fix-free-μ-loop
+fix-free-same-length-4 t c = fix-free-returns-2 t c .moved .within .len
+
+fix-free-same-length-5 : (t : ℕ) → fix-free-lts.Need-same-length-5 (fix-free-calls t) (fix-free-at t) fix-free.Post fix-free-Inv-loop fix-free-μ-loop
+fix-free-same-length-5 t c = fix-free-returns-2 t c .moved .cells-size
+
+fix-free-same-length-6 : (t : ℕ) → fix-free-lts.Need-same-length-6 (fix-free-calls t) (fix-free-at t) fix-free.Post fix-free-Inv-loop fix-free-μ-loop
+fix-free-same-length-6 t c = fix-free-returns-2 t c .moved .trailed .size
+
+follow-strike-free-requires : (t : ℕ) → follow-lts.Need-strike-free-requires (follow-calls t) (follow-at t) follow.Post
+follow-strike-free-requires t c κs =
+    let pre = c .before .before .before .before .before .before .before .pre in
+    (omega (arith, pre .0), pre .1 .1)
+
+follow-returns : (t : ℕ) → follow-lts.Need-returns (follow-calls t) (follow-at t) follow.Post
+follow-returns t c =
+    follow-high (c .before .before .before .before .before .before .before .before .before .before .if1 .taken) (c .before .before .before .before
+    .before .before .strike-free .ensures)
+
+follow-fix-free-requires : (t : ℕ) → follow-lts.Need-fix-free-requires (follow-calls t) (follow-at t) follow.Post
+follow-fix-free-requires t c κs =
+    let pre = c .before .before .before .before .before .before .before .pre in
+    (omega (arith, pre .0), pre .1 .0)
+
+follow-enum-known-p : (t : ℕ) → follow-lts.Need-enum-known-p (follow-calls t) (follow-at t) follow.Post
+follow-enum-known-p t c = search needs
+
+follow-returns-2 : (t : ℕ) → follow-lts.Need-returns-2 (follow-calls t) (follow-at t) follow.Post
+follow-returns-2 t c =
+    follow-low (c .if2 .taken) (filtered-at (c .before .before .p .given .1) (c .before .before .before .before .before .before .before .before
+    .before .before .fix-free .ensures))
+
+follow-strike-free-requires-2 : (t : ℕ) → follow-lts.Need-strike-free-requires-2 (follow-calls t) (follow-at t) follow.Post
+follow-strike-free-requires-2 t c κs =
+    let pre = c .before .before .before .before .before .before .before .before .before .before .before .before .before .before .before .before
+    .before .before .before .before .before .pre in
+    let low = filtered-at (c .before .before .before .before .before .p .given .1) (c .before .before .before .before .before .before .before .before
+    .before .before .before .before .before .fix-free .ensures) in (
+      omega (arith, total-less (low .moved .within), pre .0),
+      record { world = world-moved (pre .1 .0 .world) (low .moved); end-in = pre .1 .1 .end-in; value-in = pre .1 .1 .value-in },
+    )
+
+follow-returns-3 : (t : ℕ) → follow-lts.Need-returns-3 (follow-calls t) (follow-at t) follow.Post
+follow-returns-3 t c =
+    let pre = c .before .before .before .before .before .before .before .before .before .before .before .before .before .before .before .before
+    .before .before .before .before .before .before .before .before .before .before .before .before .pre in
+    follow-both (pre .1 .0 .world .alive) (filtered-at (c .before .before .before .before .before .before .before .before .before .before .before
+    .before .p .given .1) (c .before .before .before .before .before .before .before .before .before .before .before .before .before .before .before
+    .before .before .before .before .before .fix-free .ensures)) (c .before .before .before .before .before .before .strike-free2 .ensures)
+
+follow-enum-known-p-2 : (t : ℕ) → follow-lts.Need-enum-known-p-2 (follow-calls t) (follow-at t) follow.Post
+follow-enum-known-p-2 t c = search needs
+
+follow-returns-4 : (t : ℕ) → follow-lts.Need-returns-4 (follow-calls t) (follow-at t) follow.Post
+follow-returns-4 t c =
+    follow-dead (filtered-at (c .before .p2 .given .1) (c .before .before .before .before .before .before .before .before .before .fix-free .ensures))
+
+follow-same-length : (t : ℕ) → follow-lts.Need-same-length (follow-calls t) (follow-at t) follow.Post
+follow-same-length t c = follow-returns t c .moved .within .len
+
+follow-same-length-2 : (t : ℕ) → follow-lts.Need-same-length-2 (follow-calls t) (follow-at t) follow.Post
+follow-same-length-2 t c = follow-returns t c .moved .cells-size
+
+follow-same-length-3 : (t : ℕ) → follow-lts.Need-same-length-3 (follow-calls t) (follow-at t) follow.Post
+follow-same-length-3 t c = follow-returns t c .moved .trailed .size
+
+follow-same-length-4 : (t : ℕ) → follow-lts.Need-same-length-4 (follow-calls t) (follow-at t) follow.Post
+follow-same-length-4 t c = follow-returns-2 t c .moved .within .len
+
+follow-same-length-5 : (t : ℕ) → follow-lts.Need-same-length-5 (follow-calls t) (follow-at t) follow.Post
+follow-same-length-5 t c = follow-returns-2 t c .moved .cells-size
+
+follow-same-length-6 : (t : ℕ) → follow-lts.Need-same-length-6 (follow-calls t) (follow-at t) follow.Post
+follow-same-length-6 t c = follow-returns-2 t c .moved .trailed .size
+
+follow-same-length-7 : (t : ℕ) → follow-lts.Need-same-length-7 (follow-calls t) (follow-at t) follow.Post
+follow-same-length-7 t c = follow-returns-3 t c .moved .within .len
+
+follow-same-length-8 : (t : ℕ) → follow-lts.Need-same-length-8 (follow-calls t) (follow-at t) follow.Post
+follow-same-length-8 t c = follow-returns-3 t c .moved .cells-size
+
+follow-same-length-9 : (t : ℕ) → follow-lts.Need-same-length-9 (follow-calls t) (follow-at t) follow.Post
+follow-same-length-9 t c = follow-returns-3 t c .moved .trailed .size
+
+follow-same-length-10 : (t : ℕ) → follow-lts.Need-same-length-10 (follow-calls t) (follow-at t) follow.Post
+follow-same-length-10 t c = follow-returns-4 t c .moved .within .len
+
+follow-same-length-11 : (t : ℕ) → follow-lts.Need-same-length-11 (follow-calls t) (follow-at t) follow.Post
+follow-same-length-11 t c = follow-returns-4 t c .moved .cells-size
+
+follow-same-length-12 : (t : ℕ) → follow-lts.Need-same-length-12 (follow-calls t) (follow-at t) follow.Post
+follow-same-length-12 t c = follow-returns-4 t c .moved .trailed .size
+
+strike-has-value-requires : (t : ℕ) → strike-lts.Need-has-value-requires (strike-calls t) (strike-at t) strike.Post
+strike-has-value-requires t c κs =
+    let ready = c .before .before .before .before .pre .1 in
+    (ready-slot ready, ready-value ready)
+
+strike-returns : (t : ℕ) → strike-lts.Need-returns (strike-calls t) (strike-at t) strike.Post
+strike-returns t c =
+    strike-absent _ _ _ _ _ _ (eqb-false _ _ (sym (c .before .has-value .ensures) ∙ not-true _ (c .if1 .taken)))
+
+strike-strike-one-requires : (t : ℕ) → strike-lts.Need-strike-one-requires (strike-calls t) (strike-at t) strike.Post
+strike-strike-one-requires t c κs = (
+  c .before .before .before .before .before .before .before .before .before .pre .1,
+  eqb-true _ _ (sym (c .before .before .before .before
+      .has-value .ensures) ∙ not-false _ (c .before .before .before .if1 .left)),
+)
+
+strike-enum-known-o : (t : ℕ) → strike-lts.Need-enum-known-o (strike-calls t) (strike-at t) strike.Post
+strike-enum-known-o t c = search needs
+
+strike-enum-told : (t : ℕ) → strike-lts.Need-enum-told (strike-calls t) (strike-at t) strike.Post
+strike-enum-told t c = search needs
+
+strike-returns-2 : (t : ℕ) → strike-lts.Need-returns-2 (strike-calls t) (strike-at t) strike.Post
+strike-returns-2 t c =
+    let args = c .before .before .before .before .before .before .before .before .before .before .before .before .before .before .before .before
+    .before .before .args in
+    strike-contradicted (answer-contradicted _ _ _ _ _ (args .top) _ _ _ _ _ (c .before .before .before .before .before .before .before .before
+    .strike-one .ensures) (c .enum-told .given .1))
+
+strike-add-t25 : (t : ℕ) → strike-lts.Need-add-t25 (strike-calls t) (strike-at t) strike.Post
+strike-add-t25 t c =
+    omega (
+      arith,
+      ready-room (c .before .before .before .before .before .before .before .before .before .before .before .before .before .before
+          .before .before .before .before .before .before .before .pre .1) (eqb-true _ _ (sym (c .before .before .before .before .before .before .before
+          .before .before .before .before .before .before .before .before .before .has-value .ensures) ∙ not-false _ (c .before .before .before .before
+          .before .before .before .before .before .before .before .before .before .before .before .if1 .left))),
+      c .before .before .before .before .before
+          .before .before .before .before .before .before .before .before .before .before .before .before .before .before .before .before .fits,
+    )
+
+strike-returns-3 : (t : ℕ) → strike-lts.Need-returns-3 (strike-calls t) (strike-at t) strike.Post
+strike-returns-3 t c =
+    let args = c .before .before .before .before .before .before .before .before .before .before .before .before .before .before .before .before
+    .before .before .before .before .before .args in
+    let o = c .before .before .before .o in
+    let made = answer-removed _ _ _ _ _ (args .top) _ _ _ _ _ (c .before .before .before .before .before .before .before .before .before .before
+    .before .strike-one .ensures) (o .given .1) in
+    strike-followed made (follow-none (c .before .if2 .taken) (eqb-true (o .given .0 .1 .0) 0 (c .if3 .taken)))
+
+strike-add-follow : (t : ℕ) → strike-lts.Need-add-follow (strike-calls t) (strike-at t) strike.Post
+strike-add-follow t c =
+    omega (
+      arith,
+      ready-room (c .before .before .before .before .before .before .before .before .before .before .before .before .before .before
+          .before .before .before .before .before .before .before .before .before .pre .1) (eqb-true _ _ (sym (c .before .before .before .before .before
+          .before .before .before .before .before .before .before .before .before .before .before .before .before .has-value .ensures) ∙ not-false _ (c
+          .before .before .before .before .before .before .before .before .before .before .before .before .before .before .before .before .before .if1
+          .left))),
+      c .before .before .before .before .before .before .before .before .before .before .before .before .before .before .before .before
+          .before .before .before .before .before .before .before .fits,
+    )
+
+strike-follow-requires : (t : ℕ) → strike-lts.Need-follow-requires (strike-calls t) (strike-at t) strike.Post
+strike-follow-requires t c κs =
+    let args = c .before .before .before .before .before .before .before .before .before .before .before .before .before .before .before .before
+    .before .before .before .before .before .before .before .args in
+    let o = c .before .before .before .before .before .o in
+    let made = answer-removed _ _ _ _ _ (args .top) _ _ _ _ _ (c .before .before .before .before .before .before .before .before .before .before
+    .before .before .before .strike-one .ensures) (o .given .1) in
+    let pre = c .before .before .before .before .before .before .before .before .before .before .before .before .before .before .before .before
+    .before .before .before .before .before .before .before .pre in
+    let world = world-moved (pre .1 .world) (made .moved) in (
+      omega (arith, made .moved .height, pre .0),
+      (
+        record { world = world; end-in = made .low-in; value-in = pre .1 .value-in },
+        record { world = world; end-in = made .high-in; value-in = made .value-in },
+      ),
+    )
+
+strike-returns-4 : (t : ℕ) → strike-lts.Need-returns-4 (strike-calls t) (strike-at t) strike.Post
+strike-returns-4 t c =
+    let args = c .before .before .before .before .before .before .before .before .before .before .before .before .before .before .before .before
+    .before .before .before .before .before .before .before .before .before .before .before .before .before .before .args in
+    let o = c .before .before .before .before .before .before .before .before .before .before .before .before .o in
+    let made = answer-removed _ _ _ _ _ (args .top) _ _ _ _ _ (c .before .before .before .before .before .before .before .before .before .before
+    .before .before .before .before .before .before .before .before .before .before .strike-one .ensures) (o .given .1) in
+    strike-followed made (c .before .before .before .before .before .before .follow .ensures)
+
+strike-same-length : (t : ℕ) → strike-lts.Need-same-length (strike-calls t) (strike-at t) strike.Post
+strike-same-length t c = search needs
+
+strike-same-length-2 : (t : ℕ) → strike-lts.Need-same-length-2 (strike-calls t) (strike-at t) strike.Post
+strike-same-length-2 t c = search needs
+
+strike-same-length-3 : (t : ℕ) → strike-lts.Need-same-length-3 (strike-calls t) (strike-at t) strike.Post
+strike-same-length-3 t c = search needs
+
+strike-same-length-4 : (t : ℕ) → strike-lts.Need-same-length-4 (strike-calls t) (strike-at t) strike.Post
+strike-same-length-4 t c = search needs
+
+strike-same-length-5 : (t : ℕ) → strike-lts.Need-same-length-5 (strike-calls t) (strike-at t) strike.Post
+strike-same-length-5 t c = strike-returns-3 t c .moved .within .len
+
+strike-same-length-6 : (t : ℕ) → strike-lts.Need-same-length-6 (strike-calls t) (strike-at t) strike.Post
+strike-same-length-6 t c = strike-returns-3 t c .moved .cells-size
+
+strike-same-length-7 : (t : ℕ) → strike-lts.Need-same-length-7 (strike-calls t) (strike-at t) strike.Post
+strike-same-length-7 t c = strike-returns-3 t c .moved .trailed .size
+
+strike-same-length-8 : (t : ℕ) → strike-lts.Need-same-length-8 (strike-calls t) (strike-at t) strike.Post
+strike-same-length-8 t c = strike-returns-4 t c .moved .within .len
+
+strike-same-length-9 : (t : ℕ) → strike-lts.Need-same-length-9 (strike-calls t) (strike-at t) strike.Post
+strike-same-length-9 t c = strike-returns-4 t c .moved .cells-size
+
+strike-same-length-10 : (t : ℕ) → strike-lts.Need-same-length-10 (strike-calls t) (strike-at t) strike.Post
+strike-same-length-10 t c = strike-returns-4 t c .moved .trailed .size
+
+abbrev strike-free-Inv-loop : strike-free-lts.InvT-loop
+strike-free-Inv-loop masks₀ cells₀ trail₀ n k top v end h₀ slot₀ masks cells trail h slot =
+    FreeInv false n k v end masks₀ cells₀ trail₀ h₀ masks cells trail h slot
+
+abbrev strike-free-μ-loop : strike-free-lts.MeasureT-loop
+strike-free-μ-loop masks₀ cells₀ trail₀ n k top v end h₀ slot₀ masks cells trail h slot = end - slot
+
+strike-free-loop-holds : (t : ℕ) → strike-free-lts.Need-loop-holds (strike-free-calls t) (strike-free-at t) strike-free.Post strike-free-Inv-loop
+    strike-free-μ-loop
+strike-free-loop-holds t c = record { done = filtered-refl _ _ _ _ (settled-none _ _); within = omega arith }
+
+strike-free-is-free-requires : (t : ℕ) → strike-free-lts.Need-is-free-requires (strike-free-calls t) (strike-free-at t) strike-free.Post
+    strike-free-Inv-loop strike-free-μ-loop
+strike-free-is-free-requires t c κs =
+    let pruning = c .before .before .before .before .before .before .pre .1 in (
+      omega (arith, c .before .loop-test .taken, c .before .before .loop .inv .done .moved .within .len, pruning .end-in, pruning .world .slots),
+      omega (arith, pruning .value-in, pruning .world .values-fit),
+    )
+
+strike-free-add-slot : (t : ℕ) → strike-free-lts.Need-add-slot (strike-free-calls t) (strike-free-at t) strike-free.Post strike-free-Inv-loop
+    strike-free-μ-loop
+strike-free-add-slot t c =
+    omega (arith, c .before .before .before .loop-test .taken, c .before .before .before .before .before .before .before .before .fits .end)
+
+strike-free-loop-less : (t : ℕ) → strike-free-lts.Need-loop-less (strike-free-calls t) (strike-free-at t) strike-free.Post strike-free-Inv-loop
+    strike-free-μ-loop
+strike-free-loop-less t c = omega (arith, c .before .before .before .loop-test .taken)
+
+strike-free-loop-again : (t : ℕ) → strike-free-lts.Need-loop-again (strike-free-calls t) (strike-free-at t) strike-free.Post strike-free-Inv-loop
+    strike-free-μ-loop
+strike-free-loop-again t c =
+    let loop = c .before .before .before .before .loop in
+    let fixed = free-no _ _ {r = c .before .is-free .result} (not-true _ (c .if1 .taken)) (c .before .is-free .ensures) in
+    record {
+      done = filtered-goal (loop .inv .done) (λ live settled. settled-next fixed settled);
+      within = omega (
+        arith,
+        c .before .before .before
+            .loop-test .taken,
+      );
+    }
+
+strike-free-is-wide-requires : (t : ℕ) → strike-free-lts.Need-is-wide-requires (strike-free-calls t) (strike-free-at t) strike-free.Post
+    strike-free-Inv-loop strike-free-μ-loop
+strike-free-is-wide-requires t c κs =
+    let pruning = c .before .before .before .before .before .before .before .before .before .pre .1 in
+    omega (
+      arith,
+      c .before .before .before .before .loop-test .taken,
+      c .before .before .before .before .before .loop .inv .done .moved .within
+          .len,
+      pruning .end-in,
+      pruning .world .slots,
+    )
+
+strike-free-strike-requires : (t : ℕ) → strike-free-lts.Need-strike-requires (strike-free-calls t) (strike-free-at t) strike-free.Post
+    strike-free-Inv-loop strike-free-μ-loop
+strike-free-strike-requires t c κs =
+    let pre = c .before .before .before .before .before .before .before .before .before .before .before .before .before .before .pre in
+    let done = c .before .before .before .before .before .before .before .before .before .before .loop .inv .done in (
+      omega (arith, total-less (done .moved .within), pre .0),
+      record {
+        world = world-moved (pre .1 .world) (done .moved);
+        slot-in = omega (
+          arith,
+          c .before .before .before .before .before .before .before
+              .before .before .loop-test .taken,
+          pre .1 .end-in,
+        );
+        value-in = pre .1 .value-in;
+      },
+    )
+
+strike-free-enum-known-x : (t : ℕ) → strike-free-lts.Need-enum-known-x (strike-free-calls t) (strike-free-at t) strike-free.Post strike-free-Inv-loop
+    strike-free-μ-loop
+strike-free-enum-known-x t c = search needs
+
+strike-free-enum-known-x-2 : (t : ℕ) → strike-free-lts.Need-enum-known-x-2 (strike-free-calls t) (strike-free-at t) strike-free.Post
+    strike-free-Inv-loop strike-free-μ-loop
+strike-free-enum-known-x-2 t c = search needs
+
+strike-free-returns : (t : ℕ) → strike-free-lts.Need-returns (strike-free-calls t) (strike-free-at t) strike-free.Post strike-free-Inv-loop
+    strike-free-μ-loop
+strike-free-returns t c =
+    let loop = c .before .before .before .before .before .before .before .before .before .before .before .before .before .before .before .before
+    .before .before .before .before .loop in
+    let args = c .before .before .before .before .before .before .before .before .before .before .before .before .before .before .before .before
+    .before .before .before .before .before .before .before .before .args in
+    let done = loop .inv .done in
+    let free = free-yes _ _ {r = c .before .before .before .before .before .before .before .before .before .before .before .before .before .before
+    .before .before .before .is-free .result} (not-false _ (c .before .before .before .before .before .before .before .before .before .before .before
+    .before .before .before .before .before .if1 .left)) (c .before .before .before .before .before .before .before .before .before .before .before
+    .before .before .before .before .before .before .is-free .ensures) in
+    let asks = free-concerned false (done .moved .within) (loop .slot) (args .v) (free .0) (free .1) in
+    filtered-more done (filtered-at (c .before .x2 .given .1) (c .before .before .before .before .before .before .before .before .before .strike
+    .ensures)) (λ N cut. cut .each (loop .slot) (c .before .before .before .before .before .before .before .before .before .before .before .before
+    .before .before .before .before .before .before .before .loop-test .taken) asks) (λ no. absurd no)
+
+strike-free-add-slot-2 : (t : ℕ) → strike-free-lts.Need-add-slot-2 (strike-free-calls t) (strike-free-at t) strike-free.Post strike-free-Inv-loop
+    strike-free-μ-loop
+strike-free-add-slot-2 t c =
+    omega (
+      arith,
+      c .before .before .before .before .before .before .before .before .before .before .before .before .before .before .before .before
+          .before .before .before .loop-test .taken,
+      c .before .before .before .before .before .before .before .before .before .before .before .before
+          .before .before .before .before .before .before .before .before .before .before .before .before .fits .end,
+    )
+
+strike-free-loop-less-2 : (t : ℕ) → strike-free-lts.Need-loop-less-2 (strike-free-calls t) (strike-free-at t) strike-free.Post strike-free-Inv-loop
+    strike-free-μ-loop
+strike-free-loop-less-2 t c =
+    omega (
+      arith,
+      c .before .before .before .before .before .before .before .before .before .before .before .before .before .before .before .before
+          .before .before .before .loop-test .taken,
+    )
+
+strike-free-loop-again-2 : (t : ℕ) → strike-free-lts.Need-loop-again-2 (strike-free-calls t) (strike-free-at t) strike-free.Post strike-free-Inv-loop
+    strike-free-μ-loop
+strike-free-loop-again-2 t c =
+    let loop = c .before .before .before .before .before .before .before .before .before .before .before .before .before .before .before .before
+    .before .before .before .before .loop in
+    let args = c .before .before .before .before .before .before .before .before .before .before .before .before .before .before .before .before
+    .before .before .before .before .before .before .before .before .args in
+    let done = loop .inv .done in
+    let free = free-yes _ _ {r = c .before .before .before .before .before .before .before .before .before .before .before .before .before .before
+    .before .before .before .is-free .result} (not-false _ (c .before .before .before .before .before .before .before .before .before .before .before
+    .before .before .before .before .before .if1 .left)) (c .before .before .before .before .before .before .before .before .before .before .before
+    .before .before .before .before .before .before .is-free .ensures) in
+    let asks = free-concerned false (done .moved .within) (loop .slot) (args .v) (free .0) (free .1) in
+    record {
+      done = filtered-more done (filtered-at (c .before .x .given .1) (c .before .before .before .before .before .before .before .before .before
+          .strike .ensures))
+          (λ N cut. cut .each (loop .slot) (c .before .before .before .before .before .before .before .before .before .before .before .before .before
+          .before .before .before .before .before .before .loop-test .taken) asks)
+          (λ live. settled-cut false (args .v) (loop .slot) (c .before .before .before .before .before .before .before .before .before .strike
+          .ensures .moved .within));
+      within = omega (
+        arith,
+        c .before .before .before .before .before .before .before .before .before .before .before .before .before .before
+            .before .before .before .before .before .loop-test .taken,
+      );
+    }
+
+strike-free-thin-requires : (t : ℕ) → strike-free-lts.Need-thin-requires (strike-free-calls t) (strike-free-at t) strike-free.Post
+    strike-free-Inv-loop strike-free-μ-loop
+strike-free-thin-requires t c κs =
+    let pre = c .before .before .before .before .before .before .before .before .before .before .before .before .before .before .pre in
+    let done = c .before .before .before .before .before .before .before .before .before .before .loop .inv .done in
+    let free = free-yes _ _ {r = c .before .before .before .before .before .before .before .is-free .result} (not-false _ (c .before .before .before
+    .before .before .before .if1 .left)) (c .before .before .before .before .before .before .before .is-free .ensures) in (
+      record {
+        world = world-moved (pre .1 .world) (done .moved);
+        slot-in = omega (
+          arith,
+          c .before .before .before .before .before .before .before
+              .before .before .loop-test .taken,
+          pre .1 .end-in,
+        );
+        value-in = pre .1 .value-in;
+      },
+      free .0,
+      ltb-true 2 _ (sym (c .before .before .before .before .is-wide .ensures) ∙ not-false _ (c .before .before .before .if2 .left)),
+    )
+
+strike-free-returns-2 : (t : ℕ) → strike-free-lts.Need-returns-2 (strike-free-calls t) (strike-free-at t) strike-free.Post strike-free-Inv-loop
+    strike-free-μ-loop
+strike-free-returns-2 t c =
+    let loop = c .before .before .before .before .before .before .before .before .before .before .before .before .before .before .before .before
+    .before .before .loop in
+    let args = c .before .before .before .before .before .before .before .before .before .before .before .before .before .before .before .before
+    .before .before .before .before .before .before .args in
+    let done = loop .inv .done in
+    let free = free-yes _ _ {r = c .before .before .before .before .before .before .before .before .before .before .before .before .before .before
+    .before .is-free .result} (not-false _ (c .before .before .before .before .before .before .before .before .before .before .before .before .before
+    .before .if1 .left)) (c .before .before .before .before .before .before .before .before .before .before .before .before .before .before .before
+    .is-free .ensures) in
+    let asks = free-concerned false (done .moved .within) (loop .slot) (args .v) (free .0) (free .1) in
+    filtered-more done (strike-contradicted {G = λ (M : List ℕ). Unit {0}} (thinned-clash _ _ _ _ _ (loop .h) _ _ _ _ _ _ (c .before .before .before
+    .before .before .before .before .thin .ensures) (c .if3 .taken))) (λ N cut. cut .each (loop .slot) (c .before .before .before .before .before
+    .before .before .before .before .before .before .before .before .before .before .before .before .loop-test .taken) asks) (λ no. absurd no)
+
+strike-free-add-h : (t : ℕ) → strike-free-lts.Need-add-h (strike-free-calls t) (strike-free-at t) strike-free.Post strike-free-Inv-loop
+    strike-free-μ-loop
+strike-free-add-h t c =
+    let pre = c .before .before .before .before .before .before .before .before .before .before .before .before .before .before .before .before
+    .before .before .before .before .before .before .pre in
+    let args = c .before .before .before .before .before .before .before .before .before .before .before .before .before .before .before .before
+    .before .before .before .before .before .before .args in
+    let loop = c .before .before .before .before .before .before .before .before .before .before .before .before .before .before .before .before
+    .before .before .loop in
+    let done = loop .inv .done in
+    let free = free-yes _ _ {r = c .before .before .before .before .before .before .before .before .before .before .before .before .before .before
+    .before .is-free .result} (not-false _ (c .before .before .before .before .before .before .before .before .before .before .before .before .before
+    .before .if1 .left)) (c .before .before .before .before .before .before .before .before .before .before .before .before .before .before .before
+    .is-free .ensures) in
+    let room = ready-room (record {
+      world = world-moved (pre .1 .world) (done .moved);
+      slot-in = omega (
+        arith,
+        c .before .before .before .before
+            .before .before .before .before .before .before .before .before .before .before .before .before .before .loop-test .taken,
+        pre .1 .end-in,
+      );
+      value-in = pre .1 .value-in;
+    }) (free .0) in
+    let size : length (loop .trail) ≡ length (args .trail .now) = done .moved .trailed .size in
+    omega (
+      arith,
+      room,
+      size,
+      c .before .before .before .before .before .before .before .before .before .before .before .before .before .before
+          .before .before .before .before .before .before .before .before .good,
+    )
+
+strike-free-add-slot-3 : (t : ℕ) → strike-free-lts.Need-add-slot-3 (strike-free-calls t) (strike-free-at t) strike-free.Post strike-free-Inv-loop
+    strike-free-μ-loop
+strike-free-add-slot-3 t c =
+    omega (
+      arith,
+      c .before .before .before .before .before .before .before .before .before .before .before .before .before .before .before .before
+          .before .before .before .loop-test .taken,
+      c .before .before .before .before .before .before .before .before .before .before .before .before
+          .before .before .before .before .before .before .before .before .before .before .before .before .fits .end,
+    )
+
+strike-free-loop-less-3 : (t : ℕ) → strike-free-lts.Need-loop-less-3 (strike-free-calls t) (strike-free-at t) strike-free.Post strike-free-Inv-loop
+    strike-free-μ-loop
+strike-free-loop-less-3 t c =
+    omega (
+      arith,
+      c .before .before .before .before .before .before .before .before .before .before .before .before .before .before .before .before
+          .before .before .before .loop-test .taken,
+    )
+
+strike-free-loop-again-3 : (t : ℕ) → strike-free-lts.Need-loop-again-3 (strike-free-calls t) (strike-free-at t) strike-free.Post strike-free-Inv-loop
+    strike-free-μ-loop
+strike-free-loop-again-3 t c =
+    let loop = c .before .before .before .before .before .before .before .before .before .before .before .before .before .before .before .before
+    .before .before .before .before .loop in
+    let args = c .before .before .before .before .before .before .before .before .before .before .before .before .before .before .before .before
+    .before .before .before .before .before .before .before .before .args in
+    let done = loop .inv .done in
+    let free = free-yes _ _ {r = c .before .before .before .before .before .before .before .before .before .before .before .before .before .before
+    .before .before .before .is-free .result} (not-false _ (c .before .before .before .before .before .before .before .before .before .before .before
+    .before .before .before .before .before .if1 .left)) (c .before .before .before .before .before .before .before .before .before .before .before
+    .before .before .before .before .before .before .is-free .ensures) in
+    let asks = free-concerned false (done .moved .within) (loop .slot) (args .v) (free .0) (free .1) in
+    let removed = thinned-made _ _ _ _ _ (loop .h) _ _ _ _ _ _ (c .before .before .before .before .before .before .before .before .before .thin
+    .ensures) (c .before .before .if3 .left) in
+    record {
+      done = filtered-more done (thin-quiet removed (c .if4 .taken))
+          (λ N cut. cut .each (loop .slot) (c .before .before .before .before .before .before .before .before .before .before .before .before .before
+          .before .before .before .before .before .before .loop-test .taken) asks)
+          (λ live. settled-cut false (args .v) (loop .slot) (removed .moved .within));
+      within = omega (
+        arith,
+        c .before .before .before .before .before .before .before .before .before .before .before .before .before .before
+            .before .before .before .before .before .loop-test .taken,
+      );
+    }
+
+strike-free-fix-free-requires : (t : ℕ) → strike-free-lts.Need-fix-free-requires (strike-free-calls t) (strike-free-at t) strike-free.Post
+    strike-free-Inv-loop strike-free-μ-loop
+strike-free-fix-free-requires t c κs =
+    let loop = c .before .before .before .before .before .before .before .before .before .before .before .before .before .before .before .before
+    .before .before .before .before .before .before .before .loop in
+    let done = loop .inv .done in
+    let pre = c .before .before .before .before .before .before .before .before .before .before .before .before .before .before .before .before
+    .before .before .before .before .before .before .before .before .before .before .before .pre in
+    let removed = thinned-made _ _ _ _ _ (loop .h) _ _ _ _ _ _ (c .before .before .before .before .before .before .before .before .before .before
+    .before .before .thin .ensures) (c .before .before .before .before .before .if3 .left) in (
+      omega (arith, removed .moved .height, total-less (done .moved .within), pre .0),
+      record {
+        world = world-moved (world-moved (pre .1 .world) (done .moved)) (removed .moved);
+        end-in = removed .low-in;
+        value-in = pre .1 .value-in;
+      },
+    )
+
+strike-free-enum-known-x-3 : (t : ℕ) → strike-free-lts.Need-enum-known-x-3 (strike-free-calls t) (strike-free-at t) strike-free.Post
+    strike-free-Inv-loop strike-free-μ-loop
+strike-free-enum-known-x-3 t c = search needs
+
+strike-free-enum-known-x-4 : (t : ℕ) → strike-free-lts.Need-enum-known-x-4 (strike-free-calls t) (strike-free-at t) strike-free.Post
+    strike-free-Inv-loop strike-free-μ-loop
+strike-free-enum-known-x-4 t c = search needs
+
+strike-free-returns-3 : (t : ℕ) → strike-free-lts.Need-returns-3 (strike-free-calls t) (strike-free-at t) strike-free.Post strike-free-Inv-loop
+    strike-free-μ-loop
+strike-free-returns-3 t c =
+    let loop = c .before .before .before .before .before .before .before .before .before .before .before .before .before .before .before .before
+    .before .before .before .before .before .before .before .before .before .before .before .before .before .before .before .before .before .loop in
+    let args = c .before .before .before .before .before .before .before .before .before .before .before .before .before .before .before .before
+    .before .before .before .before .before .before .before .before .before .before .before .before .before .before .before .before .before .before
+    .before .before .before .args in
+    let done = loop .inv .done in
+    let free = free-yes _ _ {r = c .before .before .before .before .before .before .before .before .before .before .before .before .before .before
+    .before .before .before .before .before .before .before .before .before .before .before .before .before .before .before .before .is-free .result}
+    (not-false _ (c .before .before .before .before .before .before .before .before .before .before .before .before .before .before .before .before
+    .before .before .before .before .before .before .before .before .before .before .before .before .before .if1 .left)) (c .before .before .before
+    .before .before .before .before .before .before .before .before .before .before .before .before .before .before .before .before .before .before
+    .before .before .before .before .before .before .before .before .before .is-free .ensures) in
+    let asks = free-concerned false (done .moved .within) (loop .slot) (args .v) (free .0) (free .1) in
+    let removed = thinned-made _ _ _ _ _ (loop .h) _ _ _ _ _ _ (c .before .before .before .before .before .before .before .before .before .before
+    .before .before .before .before .before .before .before .before .before .before .before .before .thin .ensures) (c .before .before .before
+    .before .before .before .before .before .before .before .before .before .before .before .before .if3 .left) in
+    filtered-more done (filtered-at (c .before .x4 .given .1) (thin-followed removed (c .before .before .before .before .before .before .before
+    .before .before .fix-free .ensures))) (λ N cut. cut .each (loop .slot) (c .before .before .before .before .before .before .before .before .before
+    .before .before .before .before .before .before .before .before .before .before .before .before .before .before .before .before .before .before
+    .before .before .before .before .before .loop-test .taken) asks) (λ no. absurd no)
+
+strike-free-add-slot-4 : (t : ℕ) → strike-free-lts.Need-add-slot-4 (strike-free-calls t) (strike-free-at t) strike-free.Post strike-free-Inv-loop
+    strike-free-μ-loop
+strike-free-add-slot-4 t c =
+    omega (
+      arith,
+      c .before .before .before .before .before .before .before .before .before .before .before .before .before .before .before .before
+          .before .before .before .before .before .before .before .before .before .before .before .before .before .before .before .before .loop-test
+          .taken,
+      c .before .before .before .before .before .before .before .before .before .before .before .before .before .before .before .before .before
+          .before .before .before .before .before .before .before .before .before .before .before .before .before .before .before .before .before .before
+          .before .before .fits .end,
+    )
+
+strike-free-loop-less-4 : (t : ℕ) → strike-free-lts.Need-loop-less-4 (strike-free-calls t) (strike-free-at t) strike-free.Post strike-free-Inv-loop
+    strike-free-μ-loop
+strike-free-loop-less-4 t c =
+    omega (
+      arith,
+      c .before .before .before .before .before .before .before .before .before .before .before .before .before .before .before .before
+          .before .before .before .before .before .before .before .before .before .before .before .before .before .before .before .before .loop-test .taken,
+    )
+
+strike-free-loop-again-4 : (t : ℕ) → strike-free-lts.Need-loop-again-4 (strike-free-calls t) (strike-free-at t) strike-free.Post strike-free-Inv-loop
+    strike-free-μ-loop
+strike-free-loop-again-4 t c =
+    let loop = c .before .before .before .before .before .before .before .before .before .before .before .before .before .before .before .before
+    .before .before .before .before .before .before .before .before .before .before .before .before .before .before .before .before .before .loop in
+    let args = c .before .before .before .before .before .before .before .before .before .before .before .before .before .before .before .before
+    .before .before .before .before .before .before .before .before .before .before .before .before .before .before .before .before .before .before
+    .before .before .before .args in
+    let done = loop .inv .done in
+    let free = free-yes _ _ {r = c .before .before .before .before .before .before .before .before .before .before .before .before .before .before
+    .before .before .before .before .before .before .before .before .before .before .before .before .before .before .before .before .is-free .result}
+    (not-false _ (c .before .before .before .before .before .before .before .before .before .before .before .before .before .before .before .before
+    .before .before .before .before .before .before .before .before .before .before .before .before .before .if1 .left)) (c .before .before .before
+    .before .before .before .before .before .before .before .before .before .before .before .before .before .before .before .before .before .before
+    .before .before .before .before .before .before .before .before .before .is-free .ensures) in
+    let asks = free-concerned false (done .moved .within) (loop .slot) (args .v) (free .0) (free .1) in
+    let removed = thinned-made _ _ _ _ _ (loop .h) _ _ _ _ _ _ (c .before .before .before .before .before .before .before .before .before .before
+    .before .before .before .before .before .before .before .before .before .before .before .before .thin .ensures) (c .before .before .before
+    .before .before .before .before .before .before .before .before .before .before .before .before .if3 .left) in
+    let followed = filtered-at (c .before .x3 .given .1) (thin-followed removed (c .before .before .before .before .before .before .before .before
+    .before .fix-free .ensures)) in
+    record {
+      done = filtered-more done (followed)
+          (λ N cut. cut .each (loop .slot) (c .before .before .before .before .before .before .before .before .before .before .before .before .before
+          .before .before .before .before .before .before .before .before .before .before .before .before .before .before .before .before .before
+          .before .before .loop-test .taken) asks)
+          (λ live. settled-cut false (args .v) (loop .slot) (followed .moved .within));
+      within = omega (
+        arith,
+        c .before .before .before .before .before .before .before .before .before .before .before .before .before .before
+            .before .before .before .before .before .before .before .before .before .before .before .before .before .before .before .before .before .before
+            .loop-test .taken,
+      );
+    }
+
+strike-free-returns-4 : (t : ℕ) → strike-free-lts.Need-returns-4 (strike-free-calls t) (strike-free-at t) strike-free.Post strike-free-Inv-loop
+    strike-free-μ-loop
+strike-free-returns-4 t c =
+    filtered-goal (c .before .loop .inv .done) (λ live settled. settled-before (c .loop-test .left) settled)
+
+strike-free-same-length : (t : ℕ) → strike-free-lts.Need-same-length (strike-free-calls t) (strike-free-at t) strike-free.Post strike-free-Inv-loop
+    strike-free-μ-loop
+strike-free-same-length t c = strike-free-returns t c .moved .within .len
+
+strike-free-same-length-2 : (t : ℕ) → strike-free-lts.Need-same-length-2 (strike-free-calls t) (strike-free-at t) strike-free.Post
+    strike-free-Inv-loop strike-free-μ-loop
+strike-free-same-length-2 t c = strike-free-returns t c .moved .cells-size
+
+strike-free-same-length-3 : (t : ℕ) → strike-free-lts.Need-same-length-3 (strike-free-calls t) (strike-free-at t) strike-free.Post
+    strike-free-Inv-loop strike-free-μ-loop
+strike-free-same-length-3 t c = strike-free-returns t c .moved .trailed .size
+
+strike-free-same-length-4 : (t : ℕ) → strike-free-lts.Need-same-length-4 (strike-free-calls t) (strike-free-at t) strike-free.Post
+    strike-free-Inv-loop strike-free-μ-loop
+strike-free-same-length-4 t c = strike-free-returns-2 t c .moved .within .len
+
+strike-free-same-length-5 : (t : ℕ) → strike-free-lts.Need-same-length-5 (strike-free-calls t) (strike-free-at t) strike-free.Post
+    strike-free-Inv-loop strike-free-μ-loop
+strike-free-same-length-5 t c = strike-free-returns-2 t c .moved .cells-size
+
+strike-free-same-length-6 : (t : ℕ) → strike-free-lts.Need-same-length-6 (strike-free-calls t) (strike-free-at t) strike-free.Post
+    strike-free-Inv-loop strike-free-μ-loop
+strike-free-same-length-6 t c = strike-free-returns-2 t c .moved .trailed .size
+
+strike-free-same-length-7 : (t : ℕ) → strike-free-lts.Need-same-length-7 (strike-free-calls t) (strike-free-at t) strike-free.Post
+    strike-free-Inv-loop strike-free-μ-loop
+strike-free-same-length-7 t c = strike-free-returns-3 t c .moved .within .len
+
+strike-free-same-length-8 : (t : ℕ) → strike-free-lts.Need-same-length-8 (strike-free-calls t) (strike-free-at t) strike-free.Post
+    strike-free-Inv-loop strike-free-μ-loop
+strike-free-same-length-8 t c = strike-free-returns-3 t c .moved .cells-size
+
+strike-free-same-length-9 : (t : ℕ) → strike-free-lts.Need-same-length-9 (strike-free-calls t) (strike-free-at t) strike-free.Post
+    strike-free-Inv-loop strike-free-μ-loop
+strike-free-same-length-9 t c = strike-free-returns-3 t c .moved .trailed .size
+
+strike-free-same-length-10 : (t : ℕ) → strike-free-lts.Need-same-length-10 (strike-free-calls t) (strike-free-at t) strike-free.Post
+    strike-free-Inv-loop strike-free-μ-loop
+strike-free-same-length-10 t c = strike-free-returns-4 t c .moved .within .len
+
+strike-free-same-length-11 : (t : ℕ) → strike-free-lts.Need-same-length-11 (strike-free-calls t) (strike-free-at t) strike-free.Post
+    strike-free-Inv-loop strike-free-μ-loop
+strike-free-same-length-11 t c = strike-free-returns-4 t c .moved .cells-size
+
+strike-free-same-length-12 : (t : ℕ) → strike-free-lts.Need-same-length-12 (strike-free-calls t) (strike-free-at t) strike-free.Post
+    strike-free-Inv-loop strike-free-μ-loop
+strike-free-same-length-12 t c = strike-free-returns-4 t c .moved .trailed .size
+
+strike-other-has-value-requires : (t : ℕ) → strike-other-lts.Need-has-value-requires (strike-other-calls t) (strike-other-at t) strike-other.Post
+strike-other-has-value-requires t c κs =
+    let ready = c .before .before .before .before .pre .1 .0 in
+    (ready-slot ready, ready-value ready)
+
+strike-other-returns : (t : ℕ) → strike-other-lts.Need-returns (strike-other-calls t) (strike-other-at t) strike-other.Post
+strike-other-returns t c =
+    fix-absent _ _ _ _ _ _ (eqb-false _ _ (sym (c .before .has-value .ensures) ∙ not-true _ (c .if1 .taken)))
+
+strike-other-without-value-requires : (t : ℕ) → strike-other-lts.Need-without-value-requires (strike-other-calls t) (strike-other-at t)
+    strike-other.Post
+strike-other-without-value-requires t c κs =
+    let ready = c .before .before .before .before .before .before .before .pre .1 .0 in
+    (ready-slot ready, ready-value ready)
+
+strike-other-returns-2 : (t : ℕ) → strike-other-lts.Need-returns-2 (strike-other-calls t) (strike-other-at t) strike-other.Post
+strike-other-returns-2 t c =
+    let args = c .before .before .before .before .before .before .before .before .before .args in
+    let has = eqb-true _ _ (sym (c .before .before .before .before .has-value .ensures) ∙ not-false _ (c .before .before .before .if1 .left)) in
+    filtered-refl _ _ _ _ (other-none (args .masks .now) (args .slot) (args .v) has (c .before .without-value .ensures) (c .if2 .taken))
+
+strike-other-lowest-requires : (t : ℕ) → strike-other-lts.Need-lowest-requires (strike-other-calls t) (strike-other-at t) strike-other.Post
+strike-other-lowest-requires t c κs = omega (arith, c .before .before .before .if2 .left)
+
+strike-other-strike-requires : (t : ℕ) → strike-other-lts.Need-strike-requires (strike-other-calls t) (strike-other-at t) strike-other.Post
+strike-other-strike-requires t c κs =
+    let pre = c .before .before .before .before .before .before .before .before .before .before .before .before .before .pre in
+    let args = c .before .before .before .before .before .before .before .before .before .before .before .before .before .args in
+    let ready = pre .1 .0 in
+    let lowest = c .lowest in
+    let other = other-of (args .masks .now) (args .slot) (args .v) (lowest .result) (c .before .before .before .before .before .without-value
+    .ensures) (lowest .ensures .1 .has) in (
+      omega (arith, pre .0),
+      record { world = ready .world; slot-in = ready .slot-in; value-in = other-value other (ready .world) },
+    )
+
+strike-other-returns-3 : (t : ℕ) → strike-other-lts.Need-returns-3 (strike-other-calls t) (strike-other-at t) strike-other.Post
+strike-other-returns-3 t c =
+    let pre = c .before .before .before .before .before .before .before .before .before .before .before .before .before .before .before .before
+    .before .before .before .before .pre in
+    let args = c .before .before .before .before .before .before .before .before .before .before .before .before .before .before .before .before
+    .before .before .before .before .args in
+    let ready = pre .1 .0 in
+    let lowest = c .before .before .before .before .before .before .before .lowest in
+    let other = other-of (args .masks .now) (args .slot) (args .v) (lowest .result) (c .before .before .before .before .before .before .before
+    .before .before .before .before .before .without-value .ensures) (lowest .ensures .1 .has) in
+    let has = eqb-true _ _ (sym (c .before .before .before .before .before .before .before .before .before .before .before .before .before .before
+    .before .has-value .ensures) ∙ not-false _ (c .before .before .before .before .before .before .before .before .before .before .before .before
+    .before .before .if1 .left)) in
+    let strike = c .before .before .before .before .before .before .strike in
+    filtered-asks (other-cut other)
+    (filtered-goal (strike .ensures)
+    (λ live.
+    other-last other has (pre .1 .1) (ready-slot ready) (strike .ensures .moved .within) (strike .ensures .moved .alive (ready .world .alive))))
+
+strike-other-same-length : (t : ℕ) → strike-other-lts.Need-same-length (strike-other-calls t) (strike-other-at t) strike-other.Post
+strike-other-same-length t c = search needs
+
+strike-other-same-length-2 : (t : ℕ) → strike-other-lts.Need-same-length-2 (strike-other-calls t) (strike-other-at t) strike-other.Post
+strike-other-same-length-2 t c = search needs
+
+strike-other-same-length-3 : (t : ℕ) → strike-other-lts.Need-same-length-3 (strike-other-calls t) (strike-other-at t) strike-other.Post
+strike-other-same-length-3 t c = strike-other-returns-3 t c .moved .within .len
+
+strike-other-same-length-4 : (t : ℕ) → strike-other-lts.Need-same-length-4 (strike-other-calls t) (strike-other-at t) strike-other.Post
+strike-other-same-length-4 t c = strike-other-returns-3 t c .moved .cells-size
+
+strike-other-same-length-5 : (t : ℕ) → strike-other-lts.Need-same-length-5 (strike-other-calls t) (strike-other-at t) strike-other.Post
+strike-other-same-length-5 t c = strike-other-returns-3 t c .moved .trailed .size
+
+pub +fix+fix-free+follow+strike+strike-free+strike-other-spec : {M : Type 1} → statement M
++fix+fix-free+follow+strike+strike-free+strike-other-spec =
+    close μ-fix μ-fix-free μ-follow μ-strike μ-strike-free μ-strike-other
+    (λ t. fix-lts.spec (fix-calls t) (fix-at t) fix.Post fix-Inv-loop fix-μ-loop (fix-loop-holds t) (fix-is-wide-requires t)
+    (fix-without-value-requires t) (fix-lowest-requires t) (fix-thin-requires t) (fix-same-length t) (fix-same-length-2 t) (fix-same-length-3 t)
+    (fix-returns t) (fix-add-h t) (fix-loop-less t) (fix-loop-again t) (fix-fix-free-requires t) (fix-enum-known-x t) (fix-loop-less-2 t)
+    (fix-loop-again-2 t) (fix-enum-known-x-2 t) (fix-same-length-4 t) (fix-same-length-5 t) (fix-same-length-6 t) (fix-returns-2 t)
+    (fix-strike-other-requires t) (fix-same-length-7 t) (fix-same-length-8 t) (fix-same-length-9 t) (fix-returns-3 t))
+    (λ t. fix-free-lts.spec (fix-free-calls t) (fix-free-at t) fix-free.Post fix-free-Inv-loop fix-free-μ-loop (fix-free-loop-holds t)
+    (fix-free-is-free-requires t) (fix-free-add-s t) (fix-free-loop-less t) (fix-free-loop-again t) (fix-free-fix-requires t) (fix-free-enum-known-x
+    t) (fix-free-enum-known-x-2 t) (fix-free-same-length t) (fix-free-same-length-2 t) (fix-free-same-length-3 t) (fix-free-returns t)
+    (fix-free-add-s-2 t) (fix-free-loop-less-2 t) (fix-free-loop-again-2 t) (fix-free-same-length-4 t) (fix-free-same-length-5 t)
+    (fix-free-same-length-6 t) (fix-free-returns-2 t))
+    (λ t. follow-lts.spec (follow-calls t) (follow-at t) follow.Post (follow-strike-free-requires t) (follow-same-length t) (follow-same-length-2 t)
+    (follow-same-length-3 t) (follow-returns t) (follow-fix-free-requires t) (follow-enum-known-p t) (follow-same-length-4 t) (follow-same-length-5
+    t) (follow-same-length-6 t) (follow-returns-2 t) (follow-strike-free-requires-2 t) (follow-same-length-7 t) (follow-same-length-8 t)
+    (follow-same-length-9 t) (follow-returns-3 t) (follow-enum-known-p-2 t) (follow-same-length-10 t) (follow-same-length-11 t)
+    (follow-same-length-12 t) (follow-returns-4 t))
+    (λ t. strike-lts.spec (strike-calls t) (strike-at t) strike.Post (strike-has-value-requires t) (strike-same-length t) (strike-returns t)
+    (strike-strike-one-requires t) (strike-enum-known-o t) (strike-enum-told t) (strike-same-length-2 t) (strike-same-length-3 t)
+    (strike-same-length-4 t) (strike-returns-2 t) (strike-add-t25 t) (strike-same-length-5 t) (strike-same-length-6 t) (strike-same-length-7 t)
+    (strike-returns-3 t) (strike-add-follow t) (strike-follow-requires t) (strike-same-length-8 t) (strike-same-length-9 t) (strike-same-length-10 t)
+    (strike-returns-4 t))
+    (λ t. strike-free-lts.spec (strike-free-calls t) (strike-free-at t) strike-free.Post strike-free-Inv-loop strike-free-μ-loop
+    (strike-free-loop-holds t) (strike-free-is-free-requires t) (strike-free-add-slot t) (strike-free-loop-less t) (strike-free-loop-again t)
+    (strike-free-is-wide-requires t) (strike-free-strike-requires t) (strike-free-enum-known-x t) (strike-free-enum-known-x-2 t)
+    (strike-free-same-length t) (strike-free-same-length-2 t) (strike-free-same-length-3 t) (strike-free-returns t) (strike-free-add-slot-2 t)
+    (strike-free-loop-less-2 t) (strike-free-loop-again-2 t) (strike-free-thin-requires t) (strike-free-same-length-4 t) (strike-free-same-length-5
+    t) (strike-free-same-length-6 t) (strike-free-returns-2 t) (strike-free-add-h t) (strike-free-add-slot-3 t) (strike-free-loop-less-3 t)
+    (strike-free-loop-again-3 t) (strike-free-fix-free-requires t) (strike-free-enum-known-x-3 t) (strike-free-enum-known-x-4 t)
+    (strike-free-same-length-7 t) (strike-free-same-length-8 t) (strike-free-same-length-9 t) (strike-free-returns-3 t) (strike-free-add-slot-4 t)
+    (strike-free-loop-less-4 t) (strike-free-loop-again-4 t) (strike-free-same-length-10 t) (strike-free-same-length-11 t)
+    (strike-free-same-length-12 t) (strike-free-returns-4 t))
+    λ t. strike-other-lts.spec (strike-other-calls t) (strike-other-at t) strike-other.Post (strike-other-has-value-requires t)
+    (strike-other-same-length t) (strike-other-returns t) (strike-other-without-value-requires t) (strike-other-same-length-2 t)
+    (strike-other-returns-2 t) (strike-other-lowest-requires t) (strike-other-strike-requires t) (strike-other-same-length-3 t)
+    (strike-other-same-length-4 t) (strike-other-same-length-5 t) (strike-other-returns-3 t)

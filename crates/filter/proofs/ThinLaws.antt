@@ -1,0 +1,77 @@
+-- `thin` from its parts: the fall cannot be (`thin-barred`), or it is made, with the store and what is written on the trail (`thin-made`); its note
+-- fits a byte (`thin-note`). And what its two answers say (`thinned-clash`, `thinned-made`). No contract cites this file. Assumes nothing.
+use mathlib.Core.Path.{_≡_, refl, sym, ap, subst, _∙_}
+use mathlib.Core.Bool.{Bool, true, false}
+use mathlib.Core.List.{List}
+use Prim.Native.Nat.{ℕ, _+_, _*_, _≤_, _<_}
+use native.Mathlib.Omega.{arith}
+use lib.Count.{ones}
+use lib.ListN.{getD, set}
+use Rattle.domains.specs.Mask.{clearBit}
+use Rattle.domains.specs.Masks.{HasAt}
+use Rattle.domains.proofs.MaskLaws.{testBit-lt, ones-none, ones-clearBit}
+use Rattle.segments_model.specs.Part.{Lent}
+use Rattle.filter_model.specs.State.{Ready, Contradicted, Removed}
+use Rattle.filter_model.specs.Strike.{Dropped}
+use Rattle.filter_model.specs.Trail.{written}
+use Rattle.filter_model.proofs.ContradictionLaws.{contradicted-low}
+use Rattle.filter_model.proofs.RemovalLaws.{low-note, removed-plain}
+use Rattle.filter.specs.Filtered.{Told, Thinned}
+
+-- ---- a mask of more than two values, one of them taken out
+module _ (m v : ℕ) (wide : 2 < ones m) where
+  wide-left : 1 < ones (clearBit m v)
+  wide-left = omega (arith, ones-clearBit m v, testBit-lt m v)
+
+  wide-some : clearBit m v ≡ 0 → ⊥
+  wide-some none = omega (arith, wide-left, ap ones none, ones-none)
+
+  pub wide-other : {rest : ℕ} → rest ≡ clearBit m v → 0 < rest
+  wide-other {rest} rest-is =
+      let some : (rest ≡ 0 → ⊥) = λ none. wide-some (sym rest-is ∙ none) in
+      omega (arith, some)
+
+  wide-many : ones (clearBit m v) ≡ 1 → ⊥
+  wide-many one = omega (arith, wide-left)
+
+-- ---- Told
+module _ (slot z : ℕ) (c c′ : List ℕ) {clash : Bool} (told : Told slot z c c′ clash) where
+  told-clash : clash ≡ true → (slot < z) × (c′ ≡ c)
+  told-clash is = subst (λ (b : Bool). Told slot z c c′ b) is told
+
+  told-free : clash ≡ false → z ≤ slot
+  told-free is = subst (λ (b : Bool). Told slot z c c′ b) is told
+
+-- ---- Thinned
+module _ (n k : ℕ) (m c t : List ℕ) (top : ℕ) (m′ c′ t′ : List ℕ) (slot v a : ℕ) {clash : Bool}
+    (thinned : Thinned n k m c t top m′ c′ t′ slot v a clash) where
+  pub thinned-clash : clash ≡ true → Contradicted n k m c t m′ c′ t′ slot v
+  thinned-clash is = subst (λ (b : Bool). Thinned n k m c t top m′ c′ t′ slot v a b) is thinned
+
+  pub thinned-made : clash ≡ false → Removed n k m c t top m′ c′ t′ slot v a 0 0
+  thinned-made is = subst (λ (b : Bool). Thinned n k m c t top m′ c′ t′ slot v a b) is thinned
+
+module _ {masks cells trail : List ℕ} {n k top slot v : ℕ} (ready : Ready masks cells trail n k top slot v) (has : HasAt masks slot v)
+    (cells′ : List ℕ) {clash : Bool} (told : Told slot (getD cells (v * (n + 1)) 0) cells cells′ clash) where
+  pub thin-barred : (a : ℕ) → clash ≡ true → Thinned n k masks cells trail top masks cells′ trail slot v a clash
+  thin-barred a is =
+      let barred = told-clash slot (getD cells (v * (n + 1)) 0) cells cells′ told is in
+      rw (is, barred .1) (contradicted-low ready has (getD cells (v * (n + 1)) 0) refl (barred .0))
+
+  module _ (wide : 2 < ones (getD masks slot 0)) (is : clash ≡ false) {a x : ℕ}
+      (lent : Lent (v * (n + 1)) (n + 1) (λ l l′. Dropped n slot l l′ a x) cells cells′) where
+    abbrev left : ℕ
+    left = clearBit (getD masks slot 0) v
+
+    spent-free : getD cells (v * (n + 1)) 0 ≤ slot
+    spent-free = told-free slot (getD cells (v * (n + 1)) 0) cells cells′ told is
+
+    pub thin-note : x ≤ slot
+    thin-note = low-note ready has left refl (wide-some (getD masks slot 0) v wide) refl spent-free lent
+
+    pub thin-made : {masks′ trail′ : List ℕ} → masks′ ≡ set masks slot (clearBit (getD masks slot 0) v) → trail′ ≡ written n trail top slot v x
+        → Thinned n k masks cells trail top masks′ cells′ trail′ slot v a clash
+    thin-made masks-are trail-is =
+        rw is
+        (removed-plain ready has left refl (wide-some (getD masks slot 0) v wide) refl spent-free lent masks-are trail-is
+        (wide-many (getD masks slot 0) v wide))
