@@ -37,6 +37,7 @@ module _ (n slot : ℕ) (a b : List ℕ) {r : Hit} (fell : Fell n slot a b r) wh
               meets = λ 0<0. absurd (omega arith);
             };
         back = λ free. reverses-at (Quiet x) is;
+        from = λ 0<0. absurd (omega arith);
       }
 
   clash-drops : r ≡ Clash → Dropped n slot a b 0 0
@@ -46,6 +47,7 @@ module _ (n slot : ℕ) (a b : List ℕ) {r : Hit} (fell : Fell n slot a b r) wh
         inside = zero-le;
         reach = λ C f held free. absurd (omega (arith, free, answer-at Clash is C f held .meets .after));
         back = λ free. absurd (omega (arith, free, reverses-at Clash is));
+        from = λ 0<0. absurd (omega arith);
       }
 
   reached-drops : (t x : ℕ) → r ≡ Reached t x → Dropped n slot a b t x
@@ -62,6 +64,7 @@ module _ (n slot : ℕ) (a b : List ℕ) {r : Hit} (fell : Fell n slot a b r) wh
               meets = λ 0<t. reached .meets;
             };
         back = λ free. reverses-at (Reached t x) is;
+        from = λ 0<t. subst (λ (h : Hit). Barred slot a b h) is (fell .barred) .1;
       }
 
 -- the row of cells that was lent
@@ -87,4 +90,4 @@ module _ (row : ℕ) {n slot : ℕ} {l l′ : List ℕ} {r : Hit} (lent : Lent (
   pub dropped-reached : {t x : ℕ} → r ≡ Reached t x
       → Lent (row * (n + 1)) (n + 1) (λ a b. Dropped n slot a b t x) l l′ × Told slot (getD l (row * (n + 1)) 0) l l′ false
   dropped-reached {t} {x} is =
-      (lent-map (λ a b fell. reached-drops n slot a b fell t x is) lent, rw (row-first n row l) at (barred-at (Reached t x) is))
+      (lent-map (λ a b fell. reached-drops n slot a b fell t x is) lent, rw (row-first n row l) at (barred-at (Reached t x) is .0))

@@ -6,7 +6,6 @@ use mathlib.Core.Logic.{dite}
 use mathlib.Core.List.{List}
 use Prim.Native.Nat.{ℕ, _+_, _≤_, _<_}
 use native.Mathlib.Nat.{lt-of-not-le}
-use native.Mathlib.Numerals.{add-one}
 use native.Mathlib.Decide.{ℕ-discrete}
 use native.Mathlib.Omega.{arith}
 use borrow.Author.Tests.{eqb-true, eqb-false}
@@ -18,10 +17,11 @@ use Rattle.domains.specs.Masks.{HasAt, FixedAt, Alive, Subset, total}
 use Rattle.domains.proofs.MaskLaws.{testBit-lt, testBit-empty, testBit-clearBit-same, testBit-clearBit-other, testBit-clearBit-le}
 use Rattle.domains.proofs.MaskLaws.{ones-none, ones-empty, ones-clearBit, testBit-fixed-same, testBit-fixed-other, fixed-within, single-alone}
 use Rattle.domains.proofs.MasksLaws.{has-subset, fixed-has-subset, total-mono}
-use Rattle.settling_model.specs.Settled.{Settled}
-use Rattle.settling_model.proofs.SettledLaws.{lacks-not-has, settled-more, settled-subset}
+use Rattle.settling_model.proofs.SettledLaws.{lacks-not-has}
 use Rattle.filter_model.specs.Cuts.{StrikeCut, FixCut, SlotCut, Concerned}
+use Rattle.filter_model.specs.Mirror.{SettledFrom}
 use Rattle.filter_model.specs.State.{World}
+use Rattle.filter_model.proofs.MirrorLaws.{settled-from-next, settled-from-subset}
 use Rattle.filter_model.proofs.StoreLaws.{single-has-fixed, many-free}
 use Rattle.filter.specs.Filtered.{Free}
 
@@ -93,14 +93,12 @@ pub free-concerned : (kind : Bool) {M M₀ : List ℕ} → Subset M M₀ → (s 
 free-concerned true M⊆M₀ s v has free = has-subset M⊆M₀ s v has
 free-concerned false M⊆M₀ s v has free = λ fixed. free (fixed-has-subset M⊆M₀ s v fixed has)
 
-pub settled-next : {M : List ℕ} {v t : ℕ} → (HasAt M t v → FixedAt M t v) → Settled M v t → Settled M v (t + 1)
-settled-next {M} {v} {t} last settled = rw add-one (settled-more last settled)
-
 -- a slot that is cut as a met bound asks is settled
-pub settled-cut : (kind : Bool) {M M′ : List ℕ} (v s : ℕ) → Subset M′ M → Settled M v s → SlotCut kind s v M′ → Settled M′ v (s + 1)
-settled-cut true v s M′⊆M settled cut = settled-next (λ has. cut .fixed) (settled-subset M′⊆M settled)
+pub settled-cut : (kind : Bool) {M M′ : List ℕ} {from : ℕ} (v s : ℕ) → Subset M′ M → SettledFrom M v from s → SlotCut kind s v M′
+    → SettledFrom M′ v from (s + 1)
+settled-cut true v s M′⊆M settled cut = settled-from-next (λ has. cut .fixed) (settled-from-subset M′⊆M settled)
 settled-cut false {M′ = M′} v s M′⊆M settled cut =
-    settled-next (λ has. absurd (lacks-not-has M′ s v (cut .lacks) has)) (settled-subset M′⊆M settled)
+    settled-from-next (λ has. absurd (lacks-not-has M′ s v (cut .lacks) has)) (settled-from-subset M′⊆M settled)
 
 -- ---- the measure
 pub total-less : {N M : List ℕ} → Subset N M → total N ≤ total M

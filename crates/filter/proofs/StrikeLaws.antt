@@ -3,20 +3,22 @@
 -- end in the first, or both (`follow-none` to `follow-both`). A fix to an absent value is a dead end (`fix-absent`).
 -- No contract cites this file. Assumes nothing.
 use mathlib.Core.Path.{_≡_, refl, subst}
-use mathlib.Core.Bool.{true, false}
-use mathlib.Core.Logic.{inl, inr, ⊎-elim}
+use mathlib.Core.Bool.{Bool, true, false}
+use mathlib.Core.Logic.{_⊎_, inl, inr, ⊎-elim, dite}
 use mathlib.Core.List.{List}
-use Prim.Native.Nat.{ℕ, _+_}
+use Prim.Native.Nat.{ℕ, _+_, _<_, zero-le}
+use native.Mathlib.Decide.{decLt}
 use native.Mathlib.Omega.{arith}
 use Rattle.domains.specs.Masks.{HasAt, Alive}
 use Rattle.domains.proofs.MaskLaws.{testBit-fixed-same}
 use Rattle.domains.proofs.MasksLaws.{has-subset, fixed-subset}
-use Rattle.settling_model.specs.Settled.{Settled}
-use Rattle.settling_model.proofs.SettledLaws.{not-has-lacks, settled-none, settled-subset}
+use Rattle.closing_model.specs.Table.{Table}
+use Rattle.settling_model.proofs.SettledLaws.{not-has-lacks}
 use Rattle.filter_model.specs.Cuts.{StrikeCut, FixCut, BoundCut}
 use Rattle.filter_model.specs.State.{Moved, Contradicted, Removed}
-use Rattle.filter_model.specs.Strike.{Cuts}
-use Rattle.filter_model.proofs.SpentLaws.{settled-before}
+use Rattle.filter_model.specs.Mirror.{SettledAt, SettledFrom, Passed}
+use Rattle.filter_model.specs.Strike.{Due, Cuts, Struck}
+use Rattle.filter_model.proofs.MirrorLaws.{settled-from-none, settled-from-subset}
 use Rattle.filter_model.proofs.StateLaws.{moved-refl, moved-trans}
 use Rattle.filter.specs.Filtered.{Filtered, Followed, Removal·Answer}
 use Rattle.filter.specs.declared.Outcome.{Outcome}
@@ -31,8 +33,8 @@ module _ (n k : ℕ) (m c t : List ℕ) (top : ℕ) (m′ c′ t′ : List ℕ) 
   pub answer-contradicted : r ≡ Contradiction → Contradicted n k m c t m′ c′ t′ slot v
   answer-contradicted is = subst (λ (x : Removal). Removal·Answer n k m c t top m′ c′ t′ slot v x) is answer
 
-  pub answer-removed : {a b w : ℕ} → r ≡ Made a b w → Removed n k m c t top m′ c′ t′ slot v a b w
-  answer-removed is = subst (λ (x : Removal). Removal·Answer n k m c t top m′ c′ t′ slot v x) is answer
+  pub answer-removed : {x a y b w : ℕ} → r ≡ Made x a y b w → Removed n k m c t top m′ c′ t′ slot v x a y b w
+  answer-removed is = subst (λ (q : Removal). Removal·Answer n k m c t top m′ c′ t′ slot v q) is answer
 
 -- ---- nothing changed
 pub strike-absent : {n k : ℕ} (m c t : List ℕ) (top slot v : ℕ) → (HasAt m slot v → ⊥)
@@ -71,57 +73,67 @@ high-later : {n k : ℕ} {m c t m′ c′ t′ : List ℕ} {top h : ℕ} (w b : 
 high-later w b alive moved N cut =
     record { each = λ s s<b free. cut .each s s<b (λ fixed. free (fixed-subset (moved .within) (moved .alive alive) s w fixed)) }
 
-module _ {n k : ℕ} {m c t : List ℕ} {top v a w b : ℕ} where
-  pub follow-none : a ≡ 0 → b ≡ 0 → Filtered n k (Cuts m v a w b) (Followed v a w b) m c t top m c t (Live top)
-  follow-none a≡0 b≡0 = rw (a≡0, b≡0) (filtered-refl m c t top (record { low = settled-none m v; high = settled-none m w }))
+module _ {n k : ℕ} {m c t : List ℕ} {top v x a w y b : ℕ} where
+  pub follow-none : a ≡ 0 → b ≡ 0 → Filtered n k (Cuts m v a w b) (Followed v x a w y b) m c t top m c t (Live top)
+  follow-none a≡0 b≡0 = rw (a≡0, b≡0) (filtered-refl m c t top (record { low = settled-from-none m v x 0 zero-le; high = settled-from-none m w y 0 zero-le }))
 
   module _ {m′ c′ t′ : List ℕ} where
-    pub follow-high : {r : Outcome} → a ≡ 0 → Filtered n k (BoundCut false m w b) (λ M. Settled M w b) m c t top m′ c′ t′ r
-        → Filtered n k (Cuts m v a w b) (Followed v a w b) m c t top m′ c′ t′ r
+    pub follow-high : {r : Outcome} → a ≡ 0 → Filtered n k (BoundCut false m w b) (λ M. SettledFrom M w y b) m c t top m′ c′ t′ r
+        → Filtered n k (Cuts m v a w b) (Followed v x a w y b) m c t top m′ c′ t′ r
     follow-high a≡0 high =
-        rw a≡0 (filtered-asks (λ N cuts. cuts .high) (filtered-goal high (λ live settled. record { low = settled-none m′ v; high = settled })))
+        rw a≡0 (filtered-asks (λ N cuts. cuts .high) (filtered-goal high (λ live settled. record { low = settled-from-none m′ v x 0 zero-le; high = settled })))
 
-    pub follow-low : {r : Outcome} → b ≡ 0 → Filtered n k (BoundCut true m v a) (λ M. Settled M v a) m c t top m′ c′ t′ r
-        → Filtered n k (Cuts m v a w b) (Followed v a w b) m c t top m′ c′ t′ r
+    pub follow-low : {r : Outcome} → b ≡ 0 → Filtered n k (BoundCut true m v a) (λ M. SettledFrom M v x a) m c t top m′ c′ t′ r
+        → Filtered n k (Cuts m v a w b) (Followed v x a w y b) m c t top m′ c′ t′ r
     follow-low b≡0 low =
-        rw b≡0 (filtered-asks (λ N cuts. cuts .low) (filtered-goal low (λ live settled. record { low = settled; high = settled-none m′ w })))
+        rw b≡0 (filtered-asks (λ N cuts. cuts .low) (filtered-goal low (λ live settled. record { low = settled; high = settled-from-none m′ w y 0 zero-le })))
 
-    pub follow-dead : {h : ℕ} → Filtered n k (BoundCut true m v a) (λ M. Settled M v a) m c t top m′ c′ t′ (Dead h)
-        → Filtered n k (Cuts m v a w b) (Followed v a w b) m c t top m′ c′ t′ (Dead h)
+    pub follow-dead : {h : ℕ} → Filtered n k (BoundCut true m v a) (λ M. SettledFrom M v x a) m c t top m′ c′ t′ (Dead h)
+        → Filtered n k (Cuts m v a w b) (Followed v x a w y b) m c t top m′ c′ t′ (Dead h)
     follow-dead low = filtered-asks (λ N cuts. cuts .low) (filtered-goal low (λ no. absurd no))
 
     pub follow-both : {h : ℕ} {m″ c″ t″ : List ℕ} {r : Outcome} → Alive m
-        → Filtered n k (BoundCut true m v a) (λ M. Settled M v a) m c t top m′ c′ t′ (Live h)
-        → Filtered n k (BoundCut false m′ w b) (λ M. Settled M w b) m′ c′ t′ h m″ c″ t″ r
-        → Filtered n k (Cuts m v a w b) (Followed v a w b) m c t top m″ c″ t″ r
+        → Filtered n k (BoundCut true m v a) (λ M. SettledFrom M v x a) m c t top m′ c′ t′ (Live h)
+        → Filtered n k (BoundCut false m′ w b) (λ M. SettledFrom M w y b) m′ c′ t′ h m″ c″ t″ r
+        → Filtered n k (Cuts m v a w b) (Followed v x a w y b) m c t top m″ c″ t″ r
     follow-both alive low high =
         filtered-more (filtered-asks (λ N cuts. cuts .low) low) high (λ N cuts. high-later w b alive (low .moved) N (cuts .high))
-        (λ live settled-v settled-w. record { low = settled-subset (high .moved .within) settled-v; high = settled-w })
+        (λ live settled-v settled-w. record { low = settled-from-subset (high .moved .within) settled-v; high = settled-w })
 
 -- ---- one whole strike, and what follows it
-module _ {n k : ℕ} {m₀ c₀ t₀ m₁ c₁ t₁ : List ℕ} {top slot v a b w : ℕ} (removed : Removed n k m₀ c₀ t₀ top m₁ c₁ t₁ slot v a b w)
+-- a slot before a corner that is due is before one that was spent, or it is settled
+module _ {n k : ℕ} {T : Table} {m₀ m₁ c₁ : List ℕ} {slot v x a w y b : ℕ} (struck : Struck n k T m₀ m₁ c₁ slot v x a w y b) {m₂ : List ℕ}
+    (settled : Followed v x a w y b m₂) where
+  due-settled : (kind : Bool) (q t s : ℕ) → s < t → Due kind v a w b q t → SettledAt m₂ s q ⊎ Passed kind n T m₀ q s
+  due-settled true q t s s<t due =
+      rw (due .0)
+      (dite (decLt s x) (λ s<x. inr (struck .low-from (omega (arith, due .1)) s s<x))
+      (λ x≤s. inl (settled .low .each s (omega arith) (omega (arith, due .1)))))
+  due-settled false q t s s<t due =
+      rw (due .0)
+      (dite (decLt s y) (λ s<y. inr (struck .high-from (omega (arith, due .1)) s s<y))
+      (λ y≤s. inl (settled .high .each s (omega arith) (omega (arith, due .1)))))
+
+module _ {n k : ℕ} {m₀ c₀ t₀ m₁ c₁ t₁ : List ℕ} {top slot v x a y b w : ℕ} (removed : Removed n k m₀ c₀ t₀ top m₁ c₁ t₁ slot v x a y b w)
     {m₂ c₂ t₂ : List ℕ} where
-  pub strike-followed : {r : Outcome} → Filtered n k (Cuts m₁ v a w b) (Followed v a w b) m₁ c₁ t₁ (top + 1) m₂ c₂ t₂ r
+  pub strike-followed : {r : Outcome} → Filtered n k (Cuts m₁ v a w b) (Followed v x a w y b) m₁ c₁ t₁ (top + 1) m₂ c₂ t₂ r
       → Filtered n k (StrikeCut slot v) (StrikeCut slot v) m₀ c₀ t₀ top m₂ c₂ t₂ r
   strike-followed after =
       record {
         moved = moved-trans (removed .moved) (after .moved);
         mirror = λ T mirror. after .mirror T (removed .tables T mirror .mirror);
-        -- a corner that is newly spent is due, and so settled
+        -- a corner that is newly spent is due
         progress = λ live T mirror.
             let struck = removed .tables T mirror in
-            let settled = after .goal live in
             record {
-              spent = λ kind x t x<k corner none.
-                  ⊎-elim
-                  (λ none-before.
+              spent = λ kind q t s q<k corner none s<t.
                   ⊎-elim inl
-                  (λ due.
-                  inr
-                  (⊎-elim (λ of-v. rw (of-v .0) (settled-before (of-v .1) (settled .low)))
-                  (λ of-w. rw (of-w .0) (settled-before (of-w .1) (settled .high))) due))
-                  (struck .spent kind x t x<k corner none-before))
-                  inr (after .progress live T (struck .mirror) .spent kind x t x<k corner none);
+                  (λ passed.
+                  ⊎-elim
+                  (λ was. inr (record { end = passed .end; after = passed .after; corner = passed .corner; none = was }))
+                  (due-settled struck (after .goal live) kind q (passed .end) s (passed .after))
+                  (struck .spent kind q (passed .end) q<k (passed .corner) (passed .none)))
+                  (after .progress live T (struck .mirror) .spent kind q t s q<k corner none s<t);
             };
         keeps = λ T mirror N stable N⊆m cut.
             let struck = removed .tables T mirror in
@@ -131,10 +143,10 @@ module _ {n k : ℕ} {m₀ c₀ t₀ m₁ c₁ t₁ : List ℕ} {top slot v a b 
       }
 
 -- ---- a strike that leaves several values
-module _ {n k : ℕ} {m₀ c₀ t₀ m₁ c₁ t₁ : List ℕ} {top slot v a : ℕ} (removed : Removed n k m₀ c₀ t₀ top m₁ c₁ t₁ slot v a 0 0) where
+module _ {n k : ℕ} {m₀ c₀ t₀ m₁ c₁ t₁ : List ℕ} {top slot v x a : ℕ} (removed : Removed n k m₀ c₀ t₀ top m₁ c₁ t₁ slot v x a 0 0 0) where
   pub thin-quiet : a ≡ 0 → Filtered n k (StrikeCut slot v) (StrikeCut slot v) m₀ c₀ t₀ top m₁ c₁ t₁ (Live (top + 1))
   thin-quiet a≡0 = strike-followed removed (follow-none a≡0 refl)
 
-  pub thin-followed : {m₂ c₂ t₂ : List ℕ} {r : Outcome} → Filtered n k (BoundCut true m₁ v a) (λ M. Settled M v a) m₁ c₁ t₁ (top + 1) m₂ c₂ t₂ r
+  pub thin-followed : {m₂ c₂ t₂ : List ℕ} {r : Outcome} → Filtered n k (BoundCut true m₁ v a) (λ M. SettledFrom M v x a) m₁ c₁ t₁ (top + 1) m₂ c₂ t₂ r
       → Filtered n k (StrikeCut slot v) (StrikeCut slot v) m₀ c₀ t₀ top m₂ c₂ t₂ r
   thin-followed low = strike-followed removed (follow-low refl low)

@@ -43,18 +43,18 @@ module _ (slot z : ℕ) (c c′ : List ℕ) {clash : Bool} (told : Told slot z c
   told-free is = subst (λ (b : Bool). Told slot z c c′ b) is told
 
 -- ---- Thinned
-module _ (n k : ℕ) (m c t : List ℕ) (top : ℕ) (m′ c′ t′ : List ℕ) (slot v a : ℕ) {clash : Bool}
-    (thinned : Thinned n k m c t top m′ c′ t′ slot v a clash) where
+module _ (n k : ℕ) (m c t : List ℕ) (top : ℕ) (m′ c′ t′ : List ℕ) (slot v x a : ℕ) {clash : Bool}
+    (thinned : Thinned n k m c t top m′ c′ t′ slot v x a clash) where
   pub thinned-clash : clash ≡ true → Contradicted n k m c t m′ c′ t′ slot v
-  thinned-clash is = subst (λ (b : Bool). Thinned n k m c t top m′ c′ t′ slot v a b) is thinned
+  thinned-clash is = subst (λ (b : Bool). Thinned n k m c t top m′ c′ t′ slot v x a b) is thinned
 
-  pub thinned-made : clash ≡ false → Removed n k m c t top m′ c′ t′ slot v a 0 0
-  thinned-made is = subst (λ (b : Bool). Thinned n k m c t top m′ c′ t′ slot v a b) is thinned
+  pub thinned-made : clash ≡ false → Removed n k m c t top m′ c′ t′ slot v x a 0 0 0
+  thinned-made is = subst (λ (b : Bool). Thinned n k m c t top m′ c′ t′ slot v x a b) is thinned
 
 module _ {masks cells trail : List ℕ} {n k top slot v : ℕ} (ready : Ready masks cells trail n k top slot v) (has : HasAt masks slot v)
     (cells′ : List ℕ) {clash : Bool} (told : Told slot (getD cells (v * (n + 1)) 0) cells cells′ clash) where
-  pub thin-barred : (a : ℕ) → clash ≡ true → Thinned n k masks cells trail top masks cells′ trail slot v a clash
-  thin-barred a is =
+  pub thin-barred : (x a : ℕ) → clash ≡ true → Thinned n k masks cells trail top masks cells′ trail slot v x a clash
+  thin-barred x a is =
       let barred = told-clash slot (getD cells (v * (n + 1)) 0) cells cells′ told is in
       rw (is, barred .1) (contradicted-low ready has (getD cells (v * (n + 1)) 0) refl (barred .0))
 
@@ -70,7 +70,7 @@ module _ {masks cells trail : List ℕ} {n k top slot v : ℕ} (ready : Ready ma
     thin-note = low-note ready has left refl (wide-some (getD masks slot 0) v wide) refl spent-free lent
 
     pub thin-made : {masks′ trail′ : List ℕ} → masks′ ≡ set masks slot (clearBit (getD masks slot 0) v) → trail′ ≡ written n trail top slot v x
-        → Thinned n k masks cells trail top masks′ cells′ trail′ slot v a clash
+        → Thinned n k masks cells trail top masks′ cells′ trail′ slot v x a clash
     thin-made masks-are trail-is =
         rw is
         (removed-plain ready has left refl (wide-some (getD masks slot 0) v wide) refl spent-free lent masks-are trail-is

@@ -11,6 +11,7 @@ ghost use Rattle.domains.specs.Masks.{HasAt};
 ghost use Rattle.settling_model.specs.Settled.{Settled};
 ghost use Rattle.segments_model.specs.Part.{Lent};
 ghost use Rattle.filter_model.specs.Cuts.{StrikeCut, FixCut, BoundCut};
+ghost use Rattle.filter_model.specs.Mirror.{SettledFrom};
 ghost use Rattle.filter_model.specs.State.{Ready, Pruning};
 ghost use Rattle.filter_model.specs.Strike.{Dropped, Cuts};
 ghost use Rattle.filter_model.specs.Trail.{written};
@@ -22,14 +23,15 @@ pub enum Outcome {
     Dead(usize),
 }
 
-// One whole strike: not made, since no stable list allows it; or made, with the end before which the struck value must be settled, the
-// end before which the slot's only value must be, and that value.
+// One whole strike: not made, since no stable list allows it; or made, with the slots from which on and before which the struck value must be
+// settled, those for the slot's only value, and that value.
 enum Removal {
     Contradiction,
-    Made(usize, usize, u32),
+    Made(usize, usize, usize, usize, u32),
 }
 
-// A row's fall: that it cannot be; the end before which all must be settled, or 0; and the note by which the fall is taken back.
+// A row's fall: that it cannot be; the end before which all must be settled, or 0; and the note by which the fall is taken back. Where there is
+// such an end, the note is the one before which all was to be settled already.
 struct Descent {
     clash: bool,
     reach: usize,
@@ -62,7 +64,7 @@ pub fn fix(
         if low.reach == 0 {
             continue;
         }
-        match fix_free(masks, cells, trail, n, k, h, w, low.reach) {
+        match fix_free(masks, cells, trail, n, k, h, w, low.note, low.reach) {
             Outcome::Live(x) => h = x,
             Outcome::Dead(x) => return Outcome::Dead(x),
         }
@@ -114,17 +116,17 @@ pub fn strike(
         return Outcome::Live(top);
     }
     let o = strike_one(masks, cells, trail, n, k, top, slot, v);
-    let Removal::Made(a, b, w) = o else {
+    let Removal::Made(x, a, y, b, w) = o else {
         return Outcome::Dead(top);
     };
     if a == 0 && b == 0 {
         return Outcome::Live(top + 1);
     }
-    follow(masks, cells, trail, n, k, top + 1, v, a, w, b)
+    follow(masks, cells, trail, n, k, top + 1, v, x, a, w, y, b)
 }
 
-// What follows a strike: settles each slot before the end a, where the lower bound of v is met, then each before the end b, where the upper
-// bound of w is. At an end 0 no bound is met.
+// What follows a strike: settles the slots from x on before the end a, where the lower bound of v is met, then those from y on before the end b,
+// where the upper bound of w is. At an end 0 no bound is met.
 fn follow(
     masks: &mut [u32],
     cells: &mut [u16],
@@ -133,27 +135,29 @@ fn follow(
     k: u32,
     top: usize,
     v: u32,
+    x: usize,
     a: usize,
     w: u32,
+    y: usize,
     b: usize,
 ) -> Outcome
     requires { ⌜ Pruning (now masks) (now cells) (now trail) n k top v a × Pruning (now masks) (now cells) (now trail) n k top w b ⌝ }
-    ensures { λ r. ⌜ Filtered n k (Cuts (now (masks .entry)) v a w b) (Followed v a w b)
+    ensures { λ r. ⌜ Filtered n k (Cuts (now (masks .entry)) v a w b) (Followed v x a w y b)
         (now (masks .entry)) (now (cells .entry)) (now (trail .entry)) top (now (masks .exit)) (now (cells .exit)) (now (trail .exit)) r ⌝ }
 {
     if a == 0 {
-        return strike_free(masks, cells, trail, n, k, top, w, b);
+        return strike_free(masks, cells, trail, n, k, top, w, y, b);
     }
-    let p = fix_free(masks, cells, trail, n, k, top, v, a);
+    let p = fix_free(masks, cells, trail, n, k, top, v, x, a);
     match p {
         Outcome::Live(h) => {
             if b == 0 {
                 return Outcome::Live(h);
             }
-            return strike_free(masks, cells, trail, n, k, h, w, b);
+            return strike_free(masks, cells, trail, n, k, h, w, y, b);
         }
-        Outcome::Dead(x) => {
-            return Outcome::Dead(x);
+        Outcome::Dead(h) => {
+            return Outcome::Dead(h);
         }
     }
 }
@@ -175,12 +179,12 @@ pub fn prune(
         (now (masks .entry)) (now (cells .entry)) (now (trail .entry)) top (now (masks .exit)) (now (cells .exit)) (now (trail .exit)) r ⌝ }
 {
     if lower {
-        return fix_free(masks, cells, trail, n, k, top, v, end);
+        return fix_free(masks, cells, trail, n, k, top, v, 0, end);
     }
-    strike_free(masks, cells, trail, n, k, top, v, end)
+    strike_free(masks, cells, trail, n, k, top, v, 0, end)
 }
 
-// Where the lower bound of v is met at `end`: fixes each free slot before it to v.
+// Where the lower bound of v is met at `end`: fixes each free slot from `start` on before it to v.
 fn fix_free(
     masks: &mut [u32],
     cells: &mut [u16],
@@ -189,14 +193,15 @@ fn fix_free(
     k: u32,
     top: usize,
     v: u32,
+    start: usize,
     end: usize,
 ) -> Outcome
     requires { ⌜ Pruning (now masks) (now cells) (now trail) n k top v end ⌝ }
-    ensures { λ r. ⌜ Filtered n k (BoundCut true (now (masks .entry)) v end) (λ M. Settled M v end)
+    ensures { λ r. ⌜ Filtered n k (BoundCut true (now (masks .entry)) v end) (λ M. SettledFrom M v start end)
         (now (masks .entry)) (now (cells .entry)) (now (trail .entry)) top (now (masks .exit)) (now (cells .exit)) (now (trail .exit)) r ⌝ }
 {
     let mut h = top;
-    for s in 0..end {
+    for s in start..end {
         if !is_free(masks, s, v) {
             continue;
         }
@@ -208,7 +213,7 @@ fn fix_free(
     Outcome::Live(h)
 }
 
-// Where the upper bound of v is met at `end`: strikes v from each free slot before it.
+// Where the upper bound of v is met at `end`: strikes v from each free slot from `start` on before it.
 fn strike_free(
     masks: &mut [u32],
     cells: &mut [u16],
@@ -217,14 +222,15 @@ fn strike_free(
     k: u32,
     top: usize,
     v: u32,
+    start: usize,
     end: usize,
 ) -> Outcome
     requires { ⌜ Pruning (now masks) (now cells) (now trail) n k top v end ⌝ }
-    ensures { λ r. ⌜ Filtered n k (BoundCut false (now (masks .entry)) v end) (λ M. Settled M v end)
+    ensures { λ r. ⌜ Filtered n k (BoundCut false (now (masks .entry)) v end) (λ M. SettledFrom M v start end)
         (now (masks .entry)) (now (cells .entry)) (now (trail .entry)) top (now (masks .exit)) (now (cells .exit)) (now (trail .exit)) r ⌝ }
 {
     let mut h = top;
-    for slot in 0..end {
+    for slot in start..end {
         if !is_free(masks, slot, v) {
             continue;
         }
@@ -243,7 +249,7 @@ fn strike_free(
         if low.reach == 0 {
             continue;
         }
-        match fix_free(masks, cells, trail, n, k, h, v, low.reach) {
+        match fix_free(masks, cells, trail, n, k, h, v, low.note, low.reach) {
             Outcome::Live(x) => h = x,
             Outcome::Dead(x) => return Outcome::Dead(x),
         }
@@ -285,7 +291,7 @@ fn strike_one(
         store(masks, slot, m);
         let low = fall_row(cells, v, n, slot);
         push(trail, n, top, slot, v, low.note);
-        return Removal::Made(low.reach, 0, 0);
+        return Removal::Made(low.note, low.reach, 0, 0, 0);
     }
     let w = domains::single_value(m);
     if slot < spent(cells, k + w, n) {
@@ -296,7 +302,7 @@ fn strike_one(
     push(trail, n, top, slot, v, low.note);
     let high = fall_row(cells, k + w, n, slot);
     note_fixed(trail, slot, high.note);
-    Removal::Made(low.reach, high.reach, w)
+    Removal::Made(low.note, low.reach, high.note, high.reach, w)
 }
 
 // Strikes v from a slot that has it and at least two others, so that none gets to be the only one; or finds that no stable list allows it, and
@@ -313,7 +319,7 @@ fn thin(
 ) -> Descent
     requires { ⌜ Ready (now masks) (now cells) (now trail) n k top slot v × HasAt (now masks) slot v × (2 < ones (getD (now masks) slot 0)) ⌝ }
     ensures { λ r. ⌜ Thinned n k (now (masks .entry)) (now (cells .entry)) (now (trail .entry)) top
-        (now (masks .exit)) (now (cells .exit)) (now (trail .exit)) slot v (r .reach) (r .clash) ⌝ }
+        (now (masks .exit)) (now (cells .exit)) (now (trail .exit)) slot v (r .note) (r .reach) (r .clash) ⌝ }
 {
     let fell = fall_row(cells, v, n, slot);
     if fell.clash {

@@ -2,22 +2,24 @@
 -- (for a closed table a list that the cells mirror is stable exactly where every row is quiet), `progress-trans`, `progress-stable`.
 -- Assumes nothing.
 use mathlib.Core.Bool.{Bool, true, false}
-use mathlib.Core.Logic.{inl, inr, ⊎-elim}
+use mathlib.Core.Logic.{inl, inr, ⊎-elim, dite}
 use mathlib.Core.List.{List}
-use Prim.Native.Nat.{ℕ, _-_, _≤_, _<_}
+use Prim.Native.Nat.{ℕ, _+_, _-_, _≤_, _<_, zero-le}
 use native.Mathlib.Nat.{le-antisymm}
+use native.Mathlib.Decide.{ℕ-discrete}
 use native.Mathlib.Omega.{arith}
 use Rattle.domains.specs.Masks.{Alive, Subset}
+use Rattle.domains.proofs.MasksLaws.{has-subset, fixed-has-subset}
 use Rattle.closing_model.specs.Table.{Table, Closed}
 use Rattle.closing_model.specs.Corners.{UpperCorner, LowerCorner, line}
+use Rattle.settling_model.specs.Settled.{Settled}
 use Rattle.settling_model.specs.Stable.{Stable, tableBounds}
-use Rattle.settling_model.proofs.SettledLaws.{settled-subset}
 use Rattle.settling_model.proofs.StableLaws.{keeps-low-settled, keeps-high-settled}
 use Rattle.settling_model.proofs.TableBoundsLaws.{stable-keeps}
 use Rattle.settling_model.proofs.CornersLaws.{corners-stable}
 use Rattle.segments_model.specs.Lines.{gain, loss}
 use Rattle.segments_model.proofs.LinesLaws.{corner-of-turn}
-use Rattle.filter_model.specs.Mirror.{boundLine, Corner, Mirror, Quiet, Progress}
+use Rattle.filter_model.specs.Mirror.{boundLine, Corner, Mirror, Quiet, SettledAt, SettledFrom, Progress}
 
 -- ---- Corner
 pub lower-corner : (n : ℕ) (T : Table) (v t : ℕ) → LowerCorner n (line (T .lower) n v) t → Corner true n T v t
@@ -71,16 +73,42 @@ module _ (n k : ℕ) (T : Table) (M : List ℕ) where
             keeps-high-settled keeps (le-antisymm (keeps .high) (omega (arith, none)));
       }
 
+-- ---- SettledAt, SettledFrom
+pub settled-at-subset : {N M : List ℕ} → Subset N M → (s v : ℕ) → SettledAt M s v → SettledAt N s v
+settled-at-subset N⊆M s v settled = λ has. fixed-has-subset N⊆M s v (settled (has-subset N⊆M s v has)) has
+
+-- no slot, one slot more, a smaller end
+pub settled-from-none : (M : List ℕ) (v from t : ℕ) → t ≤ from → SettledFrom M v from t
+settled-from-none M v from t t≤from = record { each = λ s from≤s s<t. absurd (omega arith) }
+
+pub settled-from-next : {M : List ℕ} {v from t : ℕ} → SettledAt M t v → SettledFrom M v from t → SettledFrom M v from (t + 1)
+settled-from-next {t = t} last settled =
+    record { each = λ s from≤s s≤t. dite (ℕ-discrete s t) (λ e. rw e last) (λ ne. settled .each s from≤s (omega arith)) }
+
+pub settled-from-before : {M : List ℕ} {v from t u : ℕ} → t ≤ u → SettledFrom M v from u → SettledFrom M v from t
+settled-from-before t≤u settled = record { each = λ s from≤s s<t. settled .each s from≤s (omega arith) }
+
+pub settled-from-subset : {N M : List ℕ} {v from t : ℕ} → Subset N M → SettledFrom M v from t → SettledFrom N v from t
+settled-from-subset {v = v} N⊆M settled = record { each = λ s from≤s s<t. settled-at-subset N⊆M s v (settled .each s from≤s s<t) }
+
+-- from the first slot on
+pub settled-from-all : {M : List ℕ} {v t : ℕ} → SettledFrom M v 0 t → Settled M v t
+settled-from-all settled = record { each = λ s s<t. settled .each s zero-le s<t }
+
 -- ---- Progress
 pub progress-refl : (n k : ℕ) (T : Table) (M : List ℕ) → Progress n k T M M
-progress-refl n k T M = record { spent = λ kind v t v<k corner none. inl none }
+progress-refl n k T M =
+    record { spent = λ kind v t s v<k corner none s<t. inr (record { end = t; after = s<t; corner = corner; none = none }) }
 
 pub progress-trans : {n k : ℕ} {T : Table} {A B C : List ℕ} → Subset C B → Progress n k T A B → Progress n k T B C → Progress n k T A C
 progress-trans C⊆B A-B B-C =
     record {
-      spent = λ kind v t v<k corner none.
-          ⊎-elim (λ was. ⊎-elim inl (λ settled. inr (settled-subset C⊆B settled)) (A-B .spent kind v t v<k corner was)) inr
-          (B-C .spent kind v t v<k corner none);
+      spent = λ kind v t s v<k corner none s<t.
+          ⊎-elim inl
+          (λ passed.
+          ⊎-elim (λ settled. inl (settled-at-subset C⊆B s v settled)) inr
+          (A-B .spent kind v (passed .end) s v<k (passed .corner) (passed .none) (passed .after)))
+          (B-C .spent kind v t s v<k corner none s<t);
     }
 
 -- a quiet row stays quiet
@@ -89,7 +117,12 @@ pub progress-quiet : {n k : ℕ} {T : Table} {M M′ : List ℕ} {kind : Bool} {
 progress-quiet {kind = kind} {v = v} v<k M′⊆M progress quiet =
     record {
       each = λ t corner none.
-          ⊎-elim (λ was. settled-subset M′⊆M (quiet .each t corner was)) (λ settled. settled) (progress .spent kind v t v<k corner none);
+          record {
+            each = λ s s<t.
+                ⊎-elim (λ settled. settled)
+                (λ passed. settled-at-subset M′⊆M s v (quiet .each (passed .end) (passed .corner) (passed .none) .each s (passed .after)))
+                (progress .spent kind v t s v<k corner none s<t);
+          };
     }
 
 -- from a stable list, progress ends in a stable one

@@ -88,7 +88,7 @@ module _ {masks cells trail : List ℕ} {n k top slot v : ℕ} (ready : Ready ma
               lower = low-raised;
             }
 
-        pub removed-plain : (ones m ≡ 1 → ⊥) → Removed n k masks cells trail top masks′ cells₁ trail′ slot v a 0 0
+        pub removed-plain : (ones m ≡ 1 → ⊥) → Removed n k masks cells trail top masks′ cells₁ trail′ slot v x a 0 0 0
         removed-plain many =
             rw (cut-masks, trail-is)
             (record {
@@ -136,7 +136,7 @@ module _ {masks cells trail : List ℕ} {n k top slot v : ℕ} (ready : Ready ma
                   lower = low-raised;
                 }
 
-            pub removed-single : Removed n k masks cells trail top masks′ cells₂ trail″ slot v a b w
+            pub removed-single : Removed n k masks cells trail top masks′ cells₂ trail″ slot v x a y b w
             removed-single =
                 rw (cut-masks, note-is, trail-is)
                 (record {

@@ -19,7 +19,7 @@ use Rattle.segments_model.specs.Cells.{Spent}
 use Rattle.segments_model.specs.Lines.{cornerOf, gain, loss}
 use Rattle.segments_model.proofs.LinksLaws.{held-spent}
 use Rattle.filter_model.specs.Cuts.{BoundCut}
-use Rattle.filter_model.specs.Mirror.{boundLine, Corner, slackAt, row, Mirror, Quiet, Progress}
+use Rattle.filter_model.specs.Mirror.{boundLine, Corner, slackAt, row, Mirror, Quiet, Passed, Progress}
 use Rattle.filter_model.proofs.MirrorLaws.{mirror-kept}
 use Rattle.filter_model.proofs.RowLaws.{row-first}
 
@@ -53,17 +53,25 @@ module _ {n k : ℕ} {T : Table} {M cells : List ℕ} (mirror : Mirror n k T M c
   spent-corner : 0 < z → Corner kind n T v z
   spent-corner 0<z = record { from = 0<z; upto = spent-row .inside; turns = spent-row .corner 0<z }
 
+  -- the slots before it are before a corner without slack, and no others are
+  pub spent-passed : (s : ℕ) → s < z → Passed kind n T M v s
+  spent-passed s s<z = record { end = z; after = s<z; corner = spent-corner (omega arith); none = spent-row .none (omega arith) }
+
+  passed-before : (s : ℕ) → Passed kind n T M v s → s < z
+  passed-before s passed =
+      dite (decLt z (passed .end))
+      (λ z<end. absurd (omega (arith, passed .none, spent-row .last (passed .end) z<end (passed .corner .upto) (passed .corner .turns))))
+      (λ end≤z. omega (arith, passed .after))
+
   -- a later list, settled before it: no corner without slack is left unsettled
   pub spent-quiet : {M′ : List ℕ} → Progress n k T M M′ → Settled M′ v z → Quiet kind n T M′ v
   spent-quiet progress settled =
       record {
         each = λ t corner none.
-            ⊎-elim
-            (λ was.
-            settled-before
-            (dite (decLt z t) (λ z<t. absurd (omega (arith, was, spent-row .last t z<t (corner .upto) (corner .turns)))) (λ t≤z. omega arith))
-            settled)
-            (λ here. here) (progress .spent kind v t v<k corner none);
+            record {
+              each = λ s s<t.
+                  ⊎-elim (λ here. here) (λ passed. settled .each s (passed-before s passed)) (progress .spent kind v t s v<k corner none s<t);
+            };
       }
 
   pub spent-cut : (N : List ℕ) → Stable (tableBounds n k T) N → Subset N M → BoundCut kind M v z N

@@ -1,9 +1,9 @@
 -- `Struck` of `specs/Strike.antt`, from what the falls of the slack did to the rows: where other values are left at the slot only the struck
 -- value's lower row falls (`struck-plain`), where one is left its upper row falls too (`struck-single`). No contract cites this file.
 -- Assumes nothing.
-use mathlib.Core.Path.{_≡_, refl, _∙_}
+use mathlib.Core.Path.{_≡_, refl, ap, _∙_}
 use mathlib.Core.Bool.{Bool, true, false}
-use mathlib.Core.Logic.{inl, inr, dite}
+use mathlib.Core.Logic.{dite}
 use mathlib.Core.List.{List}
 use Prim.Native.Nat.{ℕ, _+_, _*_, _≤_, _<_, zero-le}
 use native.Mathlib.Decide.{ℕ-discrete}
@@ -16,10 +16,10 @@ use Rattle.domains.proofs.CountsLaws.{only-fixed, only-free}
 use Rattle.closing_model.specs.Table.{Table}
 use Rattle.segments_model.specs.Lines.{cornerOf, gain, loss, Change}
 use Rattle.segments_model.specs.Part.{Lent}
-use Rattle.filter_model.specs.Mirror.{boundLine, slackAt, row, cellsOf, Mirror}
+use Rattle.filter_model.specs.Mirror.{boundLine, slackAt, row, cellsOf, Mirror, Passed}
 use Rattle.filter_model.specs.Strike.{Reach, Dropped, Due, Struck}
-use Rattle.filter_model.proofs.RowLaws.{Row, row-weaken, row-stays, row-falls, reach-met, lent-row}
-use Rattle.filter_model.proofs.SpentLaws.{bound-cut}
+use Rattle.filter_model.proofs.RowLaws.{row-first, Row, row-weaken, row-stays, row-falls, reach-met, lent-row}
+use Rattle.filter_model.proofs.SpentLaws.{bound-cut, spent-passed}
 use Rattle.filter_model.proofs.StoreLaws.{was-free, fixed-unique, strike-within}
 
 -- the strike of v at the slot
@@ -32,15 +32,18 @@ module _ {n k : ℕ} {T : Table} {M cells : List ℕ} (mirror : Mirror n k T M c
   after = set M slot left
 
   -- ---- from the rows to the whole; where a reach is above 0 its bound is met
-  module _ (cells′ : List ℕ) (a w b : ℕ) (w<k : w < k) (a≤n : a ≤ n) (b≤n : b ≤ n)
-      (rows : (kind : Bool) (x : ℕ) → x < k → Row kind n k T M after cells′ x (Due v a w b x))
+  module _ (cells′ : List ℕ) (x₁ a w x₂ b : ℕ) (w<k : w < k) (a≤n : a ≤ n) (b≤n : b ≤ n)
+      (rows : (kind : Bool) (q : ℕ) → q < k → Row kind n k T M after cells′ q (Due kind v a w b q))
+      (low-from : 0 < a → (s : ℕ) → s < x₁ → Passed true n T M v s) (high-from : 0 < b → (s : ℕ) → s < x₂ → Passed false n T M w s)
       (low : 0 < a → gain true (boundLine true n T v) after v a ≡ loss true (boundLine true n T v) after v a)
       (high : 0 < b → gain false (boundLine false n T w) after w b ≡ loss false (boundLine false n T w) after w b) where
-    struck-rows : Struck n k T M after cells′ slot v a w b
+    struck-rows : Struck n k T M after cells′ slot v x₁ a w x₂ b
     struck-rows =
         record {
           mirror = record { rows = λ kind x x<k. rows kind x x<k .segments };
-          spent = λ kind x t x<k. rows kind x x<k .spent t;
+          spent = λ kind q t q<k. rows kind q q<k .spent t;
+          low-from = low-from;
+          high-from = high-from;
           cuts = λ N stable N⊆M cut.
               let within = strike-within M slot v inside N⊆M cut in
               record {
@@ -65,23 +68,26 @@ module _ {n k : ℕ} {T : Table} {M cells : List ℕ} (mirror : Mirror n k T M c
     low-reach : Reach n (cornerOf true n (boundLine true n T v)) (slackAt true n T M v) slot (cellsOf true n k v cells₁) a
     low-reach = lent₁ .does .reach (cornerOf true n (boundLine true n T v)) (slackAt true n T M v) (mirror .rows true v v<k .held) free₁
 
+    low-starts : 0 < a → (s : ℕ) → s < x₁ → Passed true n T M v s
+    low-starts 0<a = spent-passed mirror true v v<k x₁ (lent₁ .does .from 0<a ∙ row-first n v cells)
+
     same₁ : (kind : Bool) (x : ℕ) → x < k → (row kind k x ≡ v → ⊥) → cellsOf kind n k x cells₁ ≡ cellsOf kind n k x cells
     same₁ true x x<k other = lent-row n (k + k) v x lent₁ fits (omega arith) other
     same₁ false x x<k other = lent-row n (k + k) v (k + x) lent₁ fits (omega arith) other
 
     -- no value is alone
     module _ (many : (x : ℕ) → Fixed left x → ⊥) where
-      plain-rows : (kind : Bool) (x : ℕ) → x < k → Row kind n k T M after cells₁ x (Due v a 0 0 x)
+      plain-rows : (kind : Bool) (x : ℕ) → x < k → Row kind n k T M after cells₁ x (Due kind v a 0 0 x)
       plain-rows true x x<k =
           dite (ℕ-discrete x v)
-          (λ same. rw same (row-weaken (λ t t≤a. inl (refl, t≤a)) (row-falls mirror cells₁ slot left inside true v v<k a low-change low-reach)))
-          (λ other. row-stays mirror cells₁ slot left inside true x x<k (Due v a 0 0 x) (low-other x other) (same₁ true x x<k other))
+          (λ same. rw same (row-weaken (λ t t≤a. (refl, t≤a)) (row-falls mirror cells₁ slot left inside true v v<k a low-change low-reach)))
+          (λ other. row-stays mirror cells₁ slot left inside true x x<k (Due true v a 0 0 x) (low-other x other) (same₁ true x x<k other))
       plain-rows false x x<k =
-          row-stays mirror cells₁ slot left inside false x x<k (Due v a 0 0 x) (high-other x (many x)) (same₁ false x x<k (λ e. absurd (omega arith)))
+          row-stays mirror cells₁ slot left inside false x x<k (Due false v a 0 0 x) (high-other x (many x)) (same₁ false x x<k (λ e. absurd (omega arith)))
 
-      pub struck-plain : Struck n k T M after cells₁ slot v a 0 0
+      pub struck-plain : Struck n k T M after cells₁ slot v x₁ a 0 0 0
       struck-plain =
-          struck-rows cells₁ a 0 0 (omega arith) (lent₁ .does .inside) zero-le plain-rows
+          struck-rows cells₁ x₁ a 0 0 0 (omega arith) (lent₁ .does .inside) zero-le plain-rows low-starts (λ 0<0. absurd (omega arith))
           (reach-met mirror cells₁ slot left inside true v v<k a low-change low-reach) (λ 0<0. absurd (omega arith))
 
     -- ---- the upper row of w, the only value that is left
@@ -104,22 +110,27 @@ module _ {n k : ℕ} {T : Table} {M cells : List ℕ} (mirror : Mirror n k T M c
           lent₂ .does .reach (cornerOf false n (boundLine false n T w)) (slackAt false n T M w) (rw same (mirror .rows false w w<k .held))
           (rw same free₂)
 
-      single-rows : (kind : Bool) (x : ℕ) → x < k → Row kind n k T M after cells₂ x (Due v a w b x)
+      high-starts : 0 < b → (s : ℕ) → s < x₂ → Passed false n T M w s
+      high-starts 0<b =
+          let same = same₁ false w w<k (λ e. absurd (omega arith)) in
+          spent-passed mirror false w w<k x₂ (lent₂ .does .from 0<b ∙ ap (λ (l : List ℕ). getD l 0 0) same ∙ row-first n (k + w) cells)
+
+      single-rows : (kind : Bool) (x : ℕ) → x < k → Row kind n k T M after cells₂ x (Due kind v a w b x)
       single-rows true x x<k =
           dite (ℕ-discrete x v)
-          (λ same. rw same (row-weaken (λ t t≤a. inl (refl, t≤a)) (row-falls mirror cells₂ slot left inside true v v<k a low-change low-reach₂)))
+          (λ same. rw same (row-weaken (λ t t≤a. (refl, t≤a)) (row-falls mirror cells₂ slot left inside true v v<k a low-change low-reach₂)))
           (λ other.
-          row-stays mirror cells₂ slot left inside true x x<k (Due v a w b x) (low-other x other)
+          row-stays mirror cells₂ slot left inside true x x<k (Due true v a w b x) (low-other x other)
           (same₂ true x x<k (λ e. absurd (omega arith)) ∙ same₁ true x x<k other))
       single-rows false x x<k =
           dite (ℕ-discrete x w)
-          (λ same. rw same (row-weaken (λ t t≤b. inr (refl, t≤b)) (row-falls mirror cells₂ slot left inside false w w<k b high-change high-reach)))
+          (λ same. rw same (row-weaken (λ t t≤b. (refl, t≤b)) (row-falls mirror cells₂ slot left inside false w w<k b high-change high-reach)))
           (λ other.
-          row-stays mirror cells₂ slot left inside false x x<k (Due v a w b x) (high-other x (λ fixed. other (fixed-unique left x w fixed single)))
+          row-stays mirror cells₂ slot left inside false x x<k (Due false v a w b x) (high-other x (λ fixed. other (fixed-unique left x w fixed single)))
           (same₂ false x x<k (λ e. other (omega arith)) ∙ same₁ false x x<k (λ e. absurd (omega arith))))
 
-      pub struck-single : Struck n k T M after cells₂ slot v a w b
+      pub struck-single : Struck n k T M after cells₂ slot v x₁ a w x₂ b
       struck-single =
-          struck-rows cells₂ a w b w<k (lent₁ .does .inside) (lent₂ .does .inside) single-rows
+          struck-rows cells₂ x₁ a w x₂ b w<k (lent₁ .does .inside) (lent₂ .does .inside) single-rows low-starts high-starts
           (reach-met mirror cells₂ slot left inside true v v<k a low-change low-reach₂)
           (reach-met mirror cells₂ slot left inside false w w<k b high-change high-reach)

@@ -5,13 +5,17 @@
 --   row, cellsOf             the number of the row of a kind and value, the lower bounds' rows first; the cells of that row
 --   Mirror n k T M cells     each row holds the segments of T's bound on M, and no corner is broken
 --   Quiet kind n T M v       before each corner without slack all is settled
---   Progress n k T M M′      each corner without slack in M′ had none in M, or all before it is settled in M′
+--   SettledAt M s v          slot s has v only where it is fixed to it
+--   SettledFrom M v from t   so is each slot from `from` on and before t
+--   Passed kind n T M v s    slot s is before a corner without slack
+--   Progress n k T M M′      each slot before a corner without slack in M′ was before one in M, or is settled in M′
 -- Assumes nothing.
 use mathlib.Core.Path.{_≡_}
 use mathlib.Core.Bool.{Bool, true, false}
 use mathlib.Core.Logic.{_⊎_}
 use mathlib.Core.List.{List}
 use Prim.Native.Nat.{ℕ, _+_, _*_, _≤_, _<_}
+use Rattle.domains.specs.Masks.{HasAt, FixedAt}
 use Rattle.closing_model.specs.Table.{Table}
 use Rattle.closing_model.specs.Corners.{line}
 use Rattle.settling_model.specs.Settled.{Settled}
@@ -43,5 +47,18 @@ pub record Mirror (n k : ℕ) (T : Table) (M cells : List ℕ) : Type 0 where
 pub record Quiet (kind : Bool) (n : ℕ) (T : Table) (M : List ℕ) (v : ℕ) : Type 0 where
   pub each : (t : ℕ) → Corner kind n T v t → slackAt kind n T M v t ≡ 0 → Settled M v t
 
+abbrev pub SettledAt : List ℕ → ℕ → ℕ → Type 0
+SettledAt M s v = HasAt M s v → FixedAt M s v
+
+pub record SettledFrom (M : List ℕ) (v from t : ℕ) : Type 0 where
+  pub each : (s : ℕ) → from ≤ s → s < t → SettledAt M s v
+
+pub record Passed (kind : Bool) (n : ℕ) (T : Table) (M : List ℕ) (v s : ℕ) : Type 0 where
+  pub end : ℕ
+  pub after : s < end
+  pub corner : Corner kind n T v end
+  pub none : slackAt kind n T M v end ≡ 0
+
 pub record Progress (n k : ℕ) (T : Table) (M M′ : List ℕ) : Type 0 where
-  pub spent : (kind : Bool) (v t : ℕ) → v < k → Corner kind n T v t → slackAt kind n T M′ v t ≡ 0 → (slackAt kind n T M v t ≡ 0) ⊎ Settled M′ v t
+  pub spent : (kind : Bool) (v t s : ℕ) → v < k → Corner kind n T v t → slackAt kind n T M′ v t ≡ 0 → s < t
+      → SettledAt M′ s v ⊎ Passed kind n T M v s

@@ -3,7 +3,7 @@
 --   Moved                   from one state to a later one: values only go, each that goes is one strike on the trail, no mask gets empty, and the
 --                           trail leads back to the masks and the cells
 --   Contradicted            a strike that changed nothing, since no stable list lacks the value there
---   Removed                 a strike that was made: the reaches a of the value v, and b of the only value w that is left
+--   Removed                 a strike that was made: the notes x and reaches a of the value v, and y and b of the only value w that is left
 -- Assumes nothing.
 use mathlib.Core.Path.{_≡_}
 use mathlib.Core.List.{List}
@@ -52,10 +52,10 @@ pub record Contradicted (n k : ℕ) (masks cells trail masks′ cells′ trail�
   pub trail-same : trail′ ≡ trail
   pub dead : (T : Table) → Mirror n k T masks cells → (N : List ℕ) → Stable (tableBounds n k T) N → Subset N masks → StrikeCut slot v N → ⊥
 
-pub record Removed (n k : ℕ) (masks cells trail : List ℕ) (top : ℕ) (masks′ cells′ trail′ : List ℕ) (slot v a b w : ℕ) : Type 0 where
+pub record Removed (n k : ℕ) (masks cells trail : List ℕ) (top : ℕ) (masks′ cells′ trail′ : List ℕ) (slot v x a y b w : ℕ) : Type 0 where
   pub moved : Moved n k masks cells trail top masks′ cells′ trail′ (top + 1)
   pub cut : StrikeCut slot v masks′
   pub low-in : a ≤ n
   pub high-in : b ≤ n
   pub value-in : w < k
-  pub tables : (T : Table) → Mirror n k T masks cells → Struck n k T masks masks′ cells′ slot v a w b
+  pub tables : (T : Table) → Mirror n k T masks cells → Struck n k T masks masks′ cells′ slot v x a w y b

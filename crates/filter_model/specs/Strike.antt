@@ -1,10 +1,11 @@
 -- One whole strike of a value v at a slot, from the masks M to M′: v leaves the slot, and the slacks that this lowers are brought up to date.
 --   Reach n C f slot cells′ r   the slack f of a row with the corners C fell by one after the slot; before r all must be settled (0: nothing)
 --   Dropped n slot cells ..     the same for whichever corners and slack the cells hold, where the slot is not before the spent corner; and the
---                               note x takes the fall back
---   Due v a w b x t             all before t is to be settled for x: the reach of v is a, and that of w is b
+--                               note x takes the fall back, and is the spent corner before it where another is reached
+--   Due kind v a w b q t        all before t is to be settled for q: the reach of v's lower bound is a, and that of w's upper bound is b
 --   Cuts M′ v a w b N           N lies within M′ and meets the cuts of these two reaches
---   Struck n k T M M′ ..        for a table T: the cells mirror it, newly spent corners are due, and every stable list without v there is kept
+--   Struck n k T M M′ ..        for a table T: the cells mirror it, newly spent corners are due, the slots before the notes x and y are before a
+--                               corner that was spent, and every stable list without v there is kept
 -- w is the only value that is left at the slot, and b its reach, or 0 where others are left.
 -- Assumes nothing.
 use mathlib.Core.Path.{_≡_}
@@ -20,7 +21,7 @@ use Rattle.segments_model.specs.Fall.{fallen, MoreThan, Meets}
 use Rattle.segments_model.specs.Links.{Held}
 use Rattle.segments_model.specs.Raise.{Reversal}
 use Rattle.filter_model.specs.Cuts.{StrikeCut, BoundCut}
-use Rattle.filter_model.specs.Mirror.{Corner, slackAt, Mirror}
+use Rattle.filter_model.specs.Mirror.{Corner, slackAt, Mirror, Passed}
 
 pub record Reach (n : ℕ) (C : ℕ → Bool) (f : ℕ → ℕ) (slot : ℕ) (cells′ : List ℕ) (r : ℕ) : Type 0 where
   pub held : Held n C (fallen f slot) cells′
@@ -33,16 +34,20 @@ pub record Dropped (n slot : ℕ) (cells cells′ : List ℕ) (r x : ℕ) : Type
   pub inside : r ≤ n
   pub reach : (C : ℕ → Bool) (f : ℕ → ℕ) → Held n C f cells → getD cells 0 0 ≤ slot → Reach n C f slot cells′ r
   pub back : getD cells 0 0 ≤ slot → Reversal n slot x cells cells′
+  pub from : 0 < r → x ≡ getD cells 0 0
 
-abbrev pub Due : ℕ → ℕ → ℕ → ℕ → ℕ → ℕ → Type 0
-Due v a w b x t = ((x ≡ v) × (t ≤ a)) ⊎ ((x ≡ w) × (t ≤ b))
+abbrev pub Due : Bool → ℕ → ℕ → ℕ → ℕ → ℕ → ℕ → Type 0
+Due true v a w b q t = (q ≡ v) × (t ≤ a)
+Due false v a w b q t = (q ≡ w) × (t ≤ b)
 
 pub record Cuts (M′ : List ℕ) (v a w b : ℕ) (N : List ℕ) : Type 0 where
   pub within : Subset N M′
   pub low : BoundCut true M′ v a N
   pub high : BoundCut false M′ w b N
 
-pub record Struck (n k : ℕ) (T : Table) (M M′ cells′ : List ℕ) (slot v a w b : ℕ) : Type 0 where
+pub record Struck (n k : ℕ) (T : Table) (M M′ cells′ : List ℕ) (slot v x a w y b : ℕ) : Type 0 where
   pub mirror : Mirror n k T M′ cells′
-  pub spent : (kind : Bool) (x t : ℕ) → x < k → Corner kind n T x t → slackAt kind n T M′ x t ≡ 0 → (slackAt kind n T M x t ≡ 0) ⊎ Due v a w b x t
+  pub spent : (kind : Bool) (q t : ℕ) → q < k → Corner kind n T q t → slackAt kind n T M′ q t ≡ 0 → (slackAt kind n T M q t ≡ 0) ⊎ Due kind v a w b q t
+  pub low-from : 0 < a → (s : ℕ) → s < x → Passed true n T M v s
+  pub high-from : 0 < b → (s : ℕ) → s < y → Passed false n T M w s
   pub cuts : (N : List ℕ) → Stable (tableBounds n k T) N → Subset N M → StrikeCut slot v N → Cuts M′ v a w b N

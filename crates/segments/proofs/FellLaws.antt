@@ -68,7 +68,7 @@ module _ (n slot : ℕ) (l : List ℕ) where
               inside = t≤n;
               answer = λ C f held. rw stored (reached-spend slot held free slot≤n n<len found t≤n last prev none);
               reverses = rw (stored, z-is) (reversal-spend n slot l slot≤n free found t≤n n<len last);
-              barred = free;
+              barred = (free, z-is);
             }
 
 -- ---- Answer

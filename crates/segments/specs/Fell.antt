@@ -2,7 +2,7 @@
 --   Inside n r             the prefix that the answer names, if any, is at most n
 --   Answer n C f slot ..   the answer, for corners C and the slack f before the fall
 --   Reverses n slot ..     the answer's note takes the fall back; or there was none, since the slot is before the spent corner
---   Barred slot cells ..   at a Clash the cells stay; else the slot is not before the spent corner
+--   Barred slot cells ..   at a Clash the cells stay; else the slot is not before the spent corner, which is the note where another is reached
 --   Fell n slot ..         the cells keep their number, the answer holds for each C and f that the cells hold, and its note takes the fall back
 -- Assumes nothing.
 use mathlib.Core.Path.{_≡_}
@@ -34,7 +34,7 @@ Reverses n slot cells cells′ (Reached t x) = Reversal n slot x cells cells′
 abbrev pub Barred : ℕ → List ℕ → List ℕ → Hit → Type 0
 Barred slot cells cells′ (Quiet x) = getD cells 0 0 ≤ slot
 Barred slot cells cells′ Clash = cells′ ≡ cells
-Barred slot cells cells′ (Reached t x) = getD cells 0 0 ≤ slot
+Barred slot cells cells′ (Reached t x) = (getD cells 0 0 ≤ slot) × (x ≡ getD cells 0 0)
 
 pub record Fell (n slot : ℕ) (cells cells′ : List ℕ) (r : Hit) : Type 0 where
   pub size : length cells′ ≡ length cells

@@ -1,6 +1,6 @@
 -- The proof of the cycle of calls of `fix`, `fix_free`, `follow`, `strike`, `strike_free` and `strike_other`. The measure is five times the values
 -- that are left, plus 1 for `strike_other`, 2 for `fix`, 3 for `fix_free` and `strike_free`, and 4 for `follow`. The invariant of each loop is
--- `Filtered` for what was passed: the other values that are struck, the slots before which all is settled; each turn is `filtered-more`. A turn with
+-- `Filtered` for what was passed: the other values that are struck, the slots that are settled; each turn is `filtered-more`. A turn with
 -- `thin` is `thin-quiet` or `thin-followed`; `strike` is `strike-followed`, and `follow` is `follow-both` where both its loops run. Assumes nothing.
 use mathlib.Core.Path.{_≡_, sym, _∙_}
 use mathlib.Core.Bool.{Bool, true, false}
@@ -13,16 +13,15 @@ use borrow.Author.Tests.{eqb-true, eqb-false, ltb-true, ltb-false, not-true, not
 use borrow.Fn.Kinds.{In}
 use borrow.Fn.PlainCycle.{Measures, is, falls, and}
 use Rattle.domains.specs.Masks.{total}
-use Rattle.settling_model.specs.Settled.{Settled}
-use Rattle.settling_model.proofs.SettledLaws.{settled-none}
 use Rattle.filter_model.specs.Cuts.{FixCut, BoundCut}
-use Rattle.filter_model.proofs.SpentLaws.{settled-before}
+use Rattle.filter_model.specs.Mirror.{SettledFrom}
+use Rattle.filter_model.proofs.MirrorLaws.{settled-from-none, settled-from-next, settled-from-before}
 use Rattle.filter_model.proofs.StateLaws.{world-moved, ready-slot, ready-value, ready-room}
 use Rattle.filter.specs.Filtered.{Filtered}
 use Rattle.filter.specs.declared.Outcome.the-variants.{Live}
 use Rattle.filter.proofs.FilteredLaws.{filtered-at, filtered-refl, filtered-more, filtered-goal, filtered-asks}
 use Rattle.filter.proofs.LoopLaws.{other-of, other-has, other-value, other-cut, other-last, other-none, total-less}
-use Rattle.filter.proofs.LoopLaws.{free-no, free-yes, free-concerned, settled-next, settled-cut}
+use Rattle.filter.proofs.LoopLaws.{free-no, free-yes, free-concerned, settled-cut}
 use Rattle.filter.proofs.StrikeLaws.{answer-contradicted, answer-removed, strike-absent, strike-contradicted, strike-followed}
 use Rattle.filter.proofs.StrikeLaws.{fix-absent, follow-none, follow-high, follow-low, follow-dead, follow-both, thin-quiet, thin-followed}
 use Rattle.filter.proofs.ThinLaws.{wide-other, thinned-clash, thinned-made}
@@ -58,10 +57,9 @@ use Rattle.filter.proofs.+fix+fix_free+follow+strike+strike_free+strike
 record FixInv (n k slot v : ℕ) (masks₀ cells₀ trail₀ : List ℕ) (h₀ : ℕ) (masks cells trail : List ℕ) (h : ℕ) : Type 0 where
   done : Filtered n k (FixCut slot v) (λ M. Unit {0}) masks₀ cells₀ trail₀ h₀ masks cells trail (Live h)
 
--- all before s is settled
-record FreeInv (kind : Bool) (n k v end : ℕ) (masks₀ cells₀ trail₀ : List ℕ) (h₀ : ℕ) (masks cells trail : List ℕ) (h s : ℕ) : Type 0 where
-  done : Filtered n k (BoundCut kind masks₀ v end) (λ M. Settled M v s) masks₀ cells₀ trail₀ h₀ masks cells trail (Live h)
-  within : s ≤ end
+-- all from the start on before s is settled
+record FreeInv (kind : Bool) (n k v start end : ℕ) (masks₀ cells₀ trail₀ : List ℕ) (h₀ : ℕ) (masks cells trail : List ℕ) (h s : ℕ) : Type 0 where
+  done : Filtered n k (BoundCut kind masks₀ v end) (λ M. SettledFrom M v start s) masks₀ cells₀ trail₀ h₀ masks cells trail (Live h)
 
 abbrev μ-fix : Measures 3 fix-kinds.ps ℕ
 μ-fix κs a = 5 * total (a .0 .now) + 2
@@ -225,8 +223,8 @@ fix-returns t c =
     let done = loop .inv .done in
     let other = other-of (loop .masks) (args .slot) (args .v) (lowest .result) (c .before .before .before .before .before .before .before .before
     .before .before .before .before .without-value .ensures) (lowest .ensures .1 .has) in
-    filtered-more done (strike-contradicted {G = λ (M : List ℕ). Unit {0}} (thinned-clash _ _ _ _ _ (loop .h) _ _ _ _ _ _ (c .before .before .before
-    .before .before .before .before .thin .ensures) (c .if2 .taken))) (other-cut other) (λ no. absurd no)
+    filtered-more done (strike-contradicted {G = λ (M : List ℕ). Unit {0}} (thinned-clash _ _ _ _ _ (loop .h) _ _ _ _ _ _ _ (c .before .before
+    .before .before .before .before .before .thin .ensures) (c .if2 .taken))) (other-cut other) (λ no. absurd no)
 
 fix-add-h : (t : ℕ) → fix-lts.Need-add-h (fix-calls t) (fix-at t) fix.Post fix-Inv-loop fix-μ-loop
 fix-add-h t c =
@@ -255,7 +253,7 @@ fix-loop-less : (t : ℕ) → fix-lts.Need-loop-less (fix-calls t) (fix-at t) fi
 fix-loop-less t c =
     let loop = c .before .before .before .before .before .before .before .before .before .before .before .before .before .before .before .before
     .before .before .before .loop in
-    let removed = thinned-made _ _ _ _ _ (loop .h) _ _ _ _ _ _ (c .before .before .before .before .before .before .before .before .before .thin
+    let removed = thinned-made _ _ _ _ _ (loop .h) _ _ _ _ _ _ _ (c .before .before .before .before .before .before .before .before .before .thin
     .ensures) (c .before .before .if2 .left) in
     omega (arith, removed .moved .height)
 
@@ -269,7 +267,7 @@ fix-loop-again t c =
     let done = loop .inv .done in
     let other = other-of (loop .masks) (args .slot) (args .v) (lowest .result) (c .before .before .before .before .before .before .before .before
     .before .before .before .before .before .before .without-value .ensures) (lowest .ensures .1 .has) in
-    let removed = thinned-made _ _ _ _ _ (loop .h) _ _ _ _ _ _ (c .before .before .before .before .before .before .before .before .before .thin
+    let removed = thinned-made _ _ _ _ _ (loop .h) _ _ _ _ _ _ _ (c .before .before .before .before .before .before .before .before .before .thin
     .ensures) (c .before .before .if2 .left) in
     record { done = filtered-more done (thin-quiet removed (c .if3 .taken)) (other-cut other) (λ live before cut. tt) }
 
@@ -287,7 +285,7 @@ fix-fix-free-requires t c κs =
     let pre = c .before .before .before .before .before .before .before .before .before .before .before .before .before .before .before .before
     .before .before .before .before .before .before .before .before .before .before .pre in
     let world = world-moved (pre .1 .world) (done .moved) in
-    let removed = thinned-made _ _ _ _ _ (loop .h) _ _ _ _ _ _ (c .before .before .before .before .before .before .before .before .before .before
+    let removed = thinned-made _ _ _ _ _ (loop .h) _ _ _ _ _ _ _ (c .before .before .before .before .before .before .before .before .before .before
     .before .before .thin .ensures) (c .before .before .before .before .before .if2 .left) in (
       omega (arith, removed .moved .height, total-less (done .moved .within), pre .0),
       record { world = world-moved world (removed .moved); end-in = removed .low-in; value-in = other-value other world },
@@ -301,7 +299,7 @@ fix-loop-less-2 t c =
     let fix-free = c .before .before .before .before .before .before .before .before .before .fix-free in
     let loop = c .before .before .before .before .before .before .before .before .before .before .before .before .before .before .before .before
     .before .before .before .before .before .before .before .before .before .before .before .before .before .before .before .before .loop in
-    let removed = thinned-made _ _ _ _ _ (loop .h) _ _ _ _ _ _ (c .before .before .before .before .before .before .before .before .before .before
+    let removed = thinned-made _ _ _ _ _ (loop .h) _ _ _ _ _ _ _ (c .before .before .before .before .before .before .before .before .before .before
     .before .before .before .before .before .before .before .before .before .before .before .before .thin .ensures) (c .before .before .before
     .before .before .before .before .before .before .before .before .before .before .before .before .if2 .left) in
     omega (arith, removed .moved .height, total-less (fix-free .ensures .moved .within))
@@ -319,7 +317,7 @@ fix-loop-again-2 t c =
     let other = other-of (loop .masks) (args .slot) (args .v) (lowest .result) (c .before .before .before .before .before .before .before .before
     .before .before .before .before .before .before .before .before .before .before .before .before .before .before .before .before .before .before
     .before .without-value .ensures) (lowest .ensures .1 .has) in
-    let removed = thinned-made _ _ _ _ _ (loop .h) _ _ _ _ _ _ (c .before .before .before .before .before .before .before .before .before .before
+    let removed = thinned-made _ _ _ _ _ (loop .h) _ _ _ _ _ _ _ (c .before .before .before .before .before .before .before .before .before .before
     .before .before .before .before .before .before .before .before .before .before .before .before .thin .ensures) (c .before .before .before
     .before .before .before .before .before .before .before .before .before .before .before .before .if2 .left) in
     record {
@@ -343,7 +341,7 @@ fix-returns-2 t c =
     let other = other-of (loop .masks) (args .slot) (args .v) (lowest .result) (c .before .before .before .before .before .before .before .before
     .before .before .before .before .before .before .before .before .before .before .before .before .before .before .before .before .before .before
     .before .without-value .ensures) (lowest .ensures .1 .has) in
-    let removed = thinned-made _ _ _ _ _ (loop .h) _ _ _ _ _ _ (c .before .before .before .before .before .before .before .before .before .before
+    let removed = thinned-made _ _ _ _ _ (loop .h) _ _ _ _ _ _ _ (c .before .before .before .before .before .before .before .before .before .before
     .before .before .before .before .before .before .before .before .before .before .before .before .thin .ensures) (c .before .before .before
     .before .before .before .before .before .before .before .before .before .before .before .before .if2 .left) in
     filtered-more done (filtered-at (c .before .x2 .given .1) (thin-followed removed (c .before .before .before .before .before .before .before
@@ -394,14 +392,14 @@ fix-same-length-9 : (t : ℕ) → fix-lts.Need-same-length-9 (fix-calls t) (fix-
 fix-same-length-9 t c = fix-returns-3 t c .moved .trailed .size
 
 abbrev fix-free-Inv-loop : fix-free-lts.InvT-loop
-fix-free-Inv-loop masks₀ cells₀ trail₀ n k top v end h₀ s₀ masks cells trail h s =
-    FreeInv true n k v end masks₀ cells₀ trail₀ h₀ masks cells trail h s
+fix-free-Inv-loop masks₀ cells₀ trail₀ n k top v start end h₀ s₀ masks cells trail h s =
+    FreeInv true n k v start end masks₀ cells₀ trail₀ h₀ masks cells trail h s
 
 abbrev fix-free-μ-loop : fix-free-lts.MeasureT-loop
-fix-free-μ-loop masks₀ cells₀ trail₀ n k top v end h₀ s₀ masks cells trail h s = end - s
+fix-free-μ-loop masks₀ cells₀ trail₀ n k top v start end h₀ s₀ masks cells trail h s = end - s
 
 fix-free-loop-holds : (t : ℕ) → fix-free-lts.Need-loop-holds (fix-free-calls t) (fix-free-at t) fix-free.Post fix-free-Inv-loop fix-free-μ-loop
-fix-free-loop-holds t c = record { done = filtered-refl _ _ _ _ (settled-none _ _); within = omega arith }
+fix-free-loop-holds t c = record { done = filtered-refl _ _ _ _ (settled-from-none _ _ _ _ (omega arith)) }
 
 fix-free-is-free-requires : (t : ℕ) → fix-free-lts.Need-is-free-requires (fix-free-calls t) (fix-free-at t) fix-free.Post fix-free-Inv-loop
     fix-free-μ-loop
@@ -422,14 +420,7 @@ fix-free-loop-again : (t : ℕ) → fix-free-lts.Need-loop-again (fix-free-calls
 fix-free-loop-again t c =
     let loop = c .before .before .before .before .loop in
     let fixed = free-no _ _ {r = c .before .is-free .result} (not-true _ (c .if1 .taken)) (c .before .is-free .ensures) in
-    record {
-      done = filtered-goal (loop .inv .done) (λ live settled. settled-next fixed settled);
-      within = omega (
-        arith,
-        c .before .before .before
-            .loop-test .taken,
-      );
-    }
+    record { done = filtered-goal (loop .inv .done) (λ live settled. settled-from-next fixed settled) }
 
 fix-free-fix-requires : (t : ℕ) → fix-free-lts.Need-fix-requires (fix-free-calls t) (fix-free-at t) fix-free.Post fix-free-Inv-loop fix-free-μ-loop
 fix-free-fix-requires t c κs =
@@ -506,16 +497,11 @@ fix-free-loop-again-2 t c =
           .before .before .before .loop-test .taken) asks)
           (λ live. settled-cut true (args .v) (loop .s) (c .before .before .before .before .before .before .before .before .before .fix .ensures
           .moved .within));
-      within = omega (
-        arith,
-        c .before .before .before .before .before .before .before .before .before .before .before .before .before .before
-            .before .before .loop-test .taken,
-      );
     }
 
 fix-free-returns-2 : (t : ℕ) → fix-free-lts.Need-returns-2 (fix-free-calls t) (fix-free-at t) fix-free.Post fix-free-Inv-loop fix-free-μ-loop
 fix-free-returns-2 t c =
-    filtered-goal (c .before .loop .inv .done) (λ live settled. settled-before (c .loop-test .left) settled)
+    filtered-goal (c .before .loop .inv .done) (λ live settled. settled-from-before (c .loop-test .left) settled)
 
 fix-free-same-length : (t : ℕ) → fix-free-lts.Need-same-length (fix-free-calls t) (fix-free-at t) fix-free.Post fix-free-Inv-loop fix-free-μ-loop
 fix-free-same-length t c = fix-free-returns t c .moved .within .len
@@ -648,8 +634,8 @@ strike-returns-2 t c =
     strike-contradicted (answer-contradicted _ _ _ _ _ (args .top) _ _ _ _ _ (c .before .before .before .before .before .before .before .before
     .strike-one .ensures) (c .enum-told .given .1))
 
-strike-add-t25 : (t : ℕ) → strike-lts.Need-add-t25 (strike-calls t) (strike-at t) strike.Post
-strike-add-t25 t c =
+strike-add-t27 : (t : ℕ) → strike-lts.Need-add-t27 (strike-calls t) (strike-at t) strike.Post
+strike-add-t27 t c =
     omega (
       arith,
       ready-room (c .before .before .before .before .before .before .before .before .before .before .before .before .before .before
@@ -667,7 +653,7 @@ strike-returns-3 t c =
     let o = c .before .before .before .o in
     let made = answer-removed _ _ _ _ _ (args .top) _ _ _ _ _ (c .before .before .before .before .before .before .before .before .before .before
     .before .strike-one .ensures) (o .given .1) in
-    strike-followed made (follow-none (c .before .if2 .taken) (eqb-true (o .given .0 .1 .0) 0 (c .if3 .taken)))
+    strike-followed made (follow-none (c .before .if2 .taken) (eqb-true (o .given .0 .1 .1 .1 .0) 0 (c .if3 .taken)))
 
 strike-add-follow : (t : ℕ) → strike-lts.Need-add-follow (strike-calls t) (strike-at t) strike.Post
 strike-add-follow t c =
@@ -739,15 +725,15 @@ strike-same-length-10 : (t : ℕ) → strike-lts.Need-same-length-10 (strike-cal
 strike-same-length-10 t c = strike-returns-4 t c .moved .trailed .size
 
 abbrev strike-free-Inv-loop : strike-free-lts.InvT-loop
-strike-free-Inv-loop masks₀ cells₀ trail₀ n k top v end h₀ slot₀ masks cells trail h slot =
-    FreeInv false n k v end masks₀ cells₀ trail₀ h₀ masks cells trail h slot
+strike-free-Inv-loop masks₀ cells₀ trail₀ n k top v start end h₀ slot₀ masks cells trail h slot =
+    FreeInv false n k v start end masks₀ cells₀ trail₀ h₀ masks cells trail h slot
 
 abbrev strike-free-μ-loop : strike-free-lts.MeasureT-loop
-strike-free-μ-loop masks₀ cells₀ trail₀ n k top v end h₀ slot₀ masks cells trail h slot = end - slot
+strike-free-μ-loop masks₀ cells₀ trail₀ n k top v start end h₀ slot₀ masks cells trail h slot = end - slot
 
 strike-free-loop-holds : (t : ℕ) → strike-free-lts.Need-loop-holds (strike-free-calls t) (strike-free-at t) strike-free.Post strike-free-Inv-loop
     strike-free-μ-loop
-strike-free-loop-holds t c = record { done = filtered-refl _ _ _ _ (settled-none _ _); within = omega arith }
+strike-free-loop-holds t c = record { done = filtered-refl _ _ _ _ (settled-from-none _ _ _ _ (omega arith)) }
 
 strike-free-is-free-requires : (t : ℕ) → strike-free-lts.Need-is-free-requires (strike-free-calls t) (strike-free-at t) strike-free.Post
     strike-free-Inv-loop strike-free-μ-loop
@@ -771,14 +757,7 @@ strike-free-loop-again : (t : ℕ) → strike-free-lts.Need-loop-again (strike-f
 strike-free-loop-again t c =
     let loop = c .before .before .before .before .loop in
     let fixed = free-no _ _ {r = c .before .is-free .result} (not-true _ (c .if1 .taken)) (c .before .is-free .ensures) in
-    record {
-      done = filtered-goal (loop .inv .done) (λ live settled. settled-next fixed settled);
-      within = omega (
-        arith,
-        c .before .before .before
-            .loop-test .taken,
-      );
-    }
+    record { done = filtered-goal (loop .inv .done) (λ live settled. settled-from-next fixed settled) }
 
 strike-free-is-wide-requires : (t : ℕ) → strike-free-lts.Need-is-wide-requires (strike-free-calls t) (strike-free-at t) strike-free.Post
     strike-free-Inv-loop strike-free-μ-loop
@@ -876,11 +855,6 @@ strike-free-loop-again-2 t c =
           .before .before .before .before .before .before .loop-test .taken) asks)
           (λ live. settled-cut false (args .v) (loop .slot) (c .before .before .before .before .before .before .before .before .before .strike
           .ensures .moved .within));
-      within = omega (
-        arith,
-        c .before .before .before .before .before .before .before .before .before .before .before .before .before .before
-            .before .before .before .before .before .loop-test .taken,
-      );
     }
 
 strike-free-thin-requires : (t : ℕ) → strike-free-lts.Need-thin-requires (strike-free-calls t) (strike-free-at t) strike-free.Post
@@ -917,9 +891,9 @@ strike-free-returns-2 t c =
     .before .if1 .left)) (c .before .before .before .before .before .before .before .before .before .before .before .before .before .before .before
     .is-free .ensures) in
     let asks = free-concerned false (done .moved .within) (loop .slot) (args .v) (free .0) (free .1) in
-    filtered-more done (strike-contradicted {G = λ (M : List ℕ). Unit {0}} (thinned-clash _ _ _ _ _ (loop .h) _ _ _ _ _ _ (c .before .before .before
-    .before .before .before .before .thin .ensures) (c .if3 .taken))) (λ N cut. cut .each (loop .slot) (c .before .before .before .before .before
-    .before .before .before .before .before .before .before .before .before .before .before .before .loop-test .taken) asks) (λ no. absurd no)
+    filtered-more done (strike-contradicted {G = λ (M : List ℕ). Unit {0}} (thinned-clash _ _ _ _ _ (loop .h) _ _ _ _ _ _ _ (c .before .before
+    .before .before .before .before .before .thin .ensures) (c .if3 .taken))) (λ N cut. cut .each (loop .slot) (c .before .before .before .before
+    .before .before .before .before .before .before .before .before .before .before .before .before .before .loop-test .taken) asks) (λ no. absurd no)
 
 strike-free-add-h : (t : ℕ) → strike-free-lts.Need-add-h (strike-free-calls t) (strike-free-at t) strike-free.Post strike-free-Inv-loop
     strike-free-μ-loop
@@ -987,18 +961,13 @@ strike-free-loop-again-3 t c =
     .before .before .before .before .before .if1 .left)) (c .before .before .before .before .before .before .before .before .before .before .before
     .before .before .before .before .before .before .is-free .ensures) in
     let asks = free-concerned false (done .moved .within) (loop .slot) (args .v) (free .0) (free .1) in
-    let removed = thinned-made _ _ _ _ _ (loop .h) _ _ _ _ _ _ (c .before .before .before .before .before .before .before .before .before .thin
+    let removed = thinned-made _ _ _ _ _ (loop .h) _ _ _ _ _ _ _ (c .before .before .before .before .before .before .before .before .before .thin
     .ensures) (c .before .before .if3 .left) in
     record {
       done = filtered-more done (thin-quiet removed (c .if4 .taken))
           (λ N cut. cut .each (loop .slot) (c .before .before .before .before .before .before .before .before .before .before .before .before .before
           .before .before .before .before .before .before .loop-test .taken) asks)
           (λ live. settled-cut false (args .v) (loop .slot) (removed .moved .within));
-      within = omega (
-        arith,
-        c .before .before .before .before .before .before .before .before .before .before .before .before .before .before
-            .before .before .before .before .before .loop-test .taken,
-      );
     }
 
 strike-free-fix-free-requires : (t : ℕ) → strike-free-lts.Need-fix-free-requires (strike-free-calls t) (strike-free-at t) strike-free.Post
@@ -1009,7 +978,7 @@ strike-free-fix-free-requires t c κs =
     let done = loop .inv .done in
     let pre = c .before .before .before .before .before .before .before .before .before .before .before .before .before .before .before .before
     .before .before .before .before .before .before .before .before .before .before .before .pre in
-    let removed = thinned-made _ _ _ _ _ (loop .h) _ _ _ _ _ _ (c .before .before .before .before .before .before .before .before .before .before
+    let removed = thinned-made _ _ _ _ _ (loop .h) _ _ _ _ _ _ _ (c .before .before .before .before .before .before .before .before .before .before
     .before .before .thin .ensures) (c .before .before .before .before .before .if3 .left) in (
       omega (arith, removed .moved .height, total-less (done .moved .within), pre .0),
       record {
@@ -1043,7 +1012,7 @@ strike-free-returns-3 t c =
     .before .before .before .before .before .before .before .before .before .before .before .before .before .before .before .before .before .before
     .before .before .before .before .before .before .before .before .before .is-free .ensures) in
     let asks = free-concerned false (done .moved .within) (loop .slot) (args .v) (free .0) (free .1) in
-    let removed = thinned-made _ _ _ _ _ (loop .h) _ _ _ _ _ _ (c .before .before .before .before .before .before .before .before .before .before
+    let removed = thinned-made _ _ _ _ _ (loop .h) _ _ _ _ _ _ _ (c .before .before .before .before .before .before .before .before .before .before
     .before .before .before .before .before .before .before .before .before .before .before .before .thin .ensures) (c .before .before .before
     .before .before .before .before .before .before .before .before .before .before .before .before .if3 .left) in
     filtered-more done (filtered-at (c .before .x4 .given .1) (thin-followed removed (c .before .before .before .before .before .before .before
@@ -1089,7 +1058,7 @@ strike-free-loop-again-4 t c =
     .before .before .before .before .before .before .before .before .before .before .before .before .before .before .before .before .before .before
     .before .before .before .before .before .before .before .before .before .is-free .ensures) in
     let asks = free-concerned false (done .moved .within) (loop .slot) (args .v) (free .0) (free .1) in
-    let removed = thinned-made _ _ _ _ _ (loop .h) _ _ _ _ _ _ (c .before .before .before .before .before .before .before .before .before .before
+    let removed = thinned-made _ _ _ _ _ (loop .h) _ _ _ _ _ _ _ (c .before .before .before .before .before .before .before .before .before .before
     .before .before .before .before .before .before .before .before .before .before .before .before .thin .ensures) (c .before .before .before
     .before .before .before .before .before .before .before .before .before .before .before .before .if3 .left) in
     let followed = filtered-at (c .before .x3 .given .1) (thin-followed removed (c .before .before .before .before .before .before .before .before
@@ -1100,18 +1069,12 @@ strike-free-loop-again-4 t c =
           .before .before .before .before .before .before .before .before .before .before .before .before .before .before .before .before .before
           .before .before .loop-test .taken) asks)
           (λ live. settled-cut false (args .v) (loop .slot) (followed .moved .within));
-      within = omega (
-        arith,
-        c .before .before .before .before .before .before .before .before .before .before .before .before .before .before
-            .before .before .before .before .before .before .before .before .before .before .before .before .before .before .before .before .before .before
-            .loop-test .taken,
-      );
     }
 
 strike-free-returns-4 : (t : ℕ) → strike-free-lts.Need-returns-4 (strike-free-calls t) (strike-free-at t) strike-free.Post strike-free-Inv-loop
     strike-free-μ-loop
 strike-free-returns-4 t c =
-    filtered-goal (c .before .loop .inv .done) (λ live settled. settled-before (c .loop-test .left) settled)
+    filtered-goal (c .before .loop .inv .done) (λ live settled. settled-from-before (c .loop-test .left) settled)
 
 strike-free-same-length : (t : ℕ) → strike-free-lts.Need-same-length (strike-free-calls t) (strike-free-at t) strike-free.Post strike-free-Inv-loop
     strike-free-μ-loop
@@ -1251,7 +1214,7 @@ pub +fix+fix-free+follow+strike+strike-free+strike-other-spec : {M : Type 1} →
     (follow-same-length-12 t) (follow-returns-4 t))
     (λ t. strike-lts.spec (strike-calls t) (strike-at t) strike.Post (strike-has-value-requires t) (strike-same-length t) (strike-returns t)
     (strike-strike-one-requires t) (strike-enum-known-o t) (strike-enum-told t) (strike-same-length-2 t) (strike-same-length-3 t)
-    (strike-same-length-4 t) (strike-returns-2 t) (strike-add-t25 t) (strike-same-length-5 t) (strike-same-length-6 t) (strike-same-length-7 t)
+    (strike-same-length-4 t) (strike-returns-2 t) (strike-add-t27 t) (strike-same-length-5 t) (strike-same-length-6 t) (strike-same-length-7 t)
     (strike-returns-3 t) (strike-add-follow t) (strike-follow-requires t) (strike-same-length-8 t) (strike-same-length-9 t) (strike-same-length-10 t)
     (strike-returns-4 t))
     (λ t. strike-free-lts.spec (strike-free-calls t) (strike-free-at t) strike-free.Post strike-free-Inv-loop strike-free-μ-loop

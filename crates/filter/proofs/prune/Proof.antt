@@ -1,7 +1,8 @@
 -- `filter::prune` meets its contract: each kind has its own loop (`filtered-bound`). Assumes nothing.
 use mathlib.Core.Bool.{true, false}
 use borrow.Author.Needs.{needs}
-use Rattle.filter.proofs.FilteredLaws.{filtered-bound}
+use Rattle.filter_model.proofs.MirrorLaws.{settled-from-all}
+use Rattle.filter.proofs.FilteredLaws.{filtered-goal, filtered-bound}
 use Rattle.filter.proofs.prune.Statement.{statement}
 use Rattle.filter.proofs.prune.Tie as tie
 
@@ -22,7 +23,7 @@ returns c =
     let fix-free = c .before .before .before .before .before .before .fix-free in
     let if1 = c .before .before .before .before .before .before .before .before .before .before .if1 in
     let args = c .before .before .before .before .before .before .before .before .before .before .before .before .before .before .args in
-    filtered-bound true (args .lower) (args .v) (args .end) (if1 .taken) (fix-free .ensures)
+    filtered-goal (filtered-bound true (args .lower) (args .v) (args .end) (if1 .taken) (fix-free .ensures)) (λ live. settled-from-all)
 
 strike-free-requires : tie.Need-strike-free-requires
 strike-free-requires c κs = search needs
@@ -41,7 +42,7 @@ returns-2 c =
     let strike-free = c .before .before .before .before .before .before .strike-free in
     let if1 = c .before .before .before .before .before .before .before .before .before .before .if1 in
     let args = c .before .before .before .before .before .before .before .before .before .before .before .before .before .before .args in
-    filtered-bound false (args .lower) (args .v) (args .end) (if1 .left) (strike-free .ensures)
+    filtered-goal (filtered-bound false (args .lower) (args .v) (args .end) (if1 .left) (strike-free .ensures)) (λ live. settled-from-all)
 
 pub prune-spec : {M : Type 1} → statement M
 prune-spec = tie.close (tie.spec fix-free-requires same-length same-length-2 same-length-3 returns strike-free-requires same-length-4 same-length-5 same-length-6 returns-2)

@@ -20,7 +20,7 @@ same-length : tie.Need-same-length
 same-length c = search needs
 
 returns : tie.Need-returns
-returns c = thin-barred (c .before .before .before .before .before .before .before .before .pre .0) (c .before .before .before .before .before .before .before .before .pre .1) _ (c .before .before .before .fall-row .ensures .1) _ (c .if1 .taken)
+returns c = thin-barred (c .before .before .before .before .before .before .before .before .pre .0) (c .before .before .before .before .before .before .before .before .pre .1) _ (c .before .before .before .fall-row .ensures .1) _ _ (c .if1 .taken)
 
 take-out-requires : tie.Need-take-out-requires
 take-out-requires c κs =
