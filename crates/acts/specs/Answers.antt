@@ -42,7 +42,7 @@ pub record Deciding (masks cells trail heights : List ℕ) (n k : ℕ) (session 
 
 pub record Strikes (n : ℕ) (trail : List ℕ) (from to : ℕ) : Type 0 where
   pub order : from ≤ to
-  pub upto : n + 3 * to ≤ length trail
+  pub upto : 2 * n + 3 * to ≤ length trail
   -- a height fits 16 bits, and a value the mask
   pub heights-fit : length trail < 65536
   pub values-fit : (i : ℕ) → from ≤ i → i < to → valueAt n trail i < 32

@@ -52,7 +52,7 @@ pub record Base (n k : ℕ) (T : Table) (bytes : ℕ) (M : List ℕ) (h : ℕ) :
   pub size : length M ≡ n
   pub stable : Stable (tableBounds n k T) M
   pub values : (s w : ℕ) → k ≤ w → LacksAt M s w
-  pub room : n + 3 * (h + total M) ≤ bytes
+  pub room : 2 * n + 3 * (h + total M) ≤ bytes
 
 pub record Entry (n k : ℕ) (T : Table) (trail M cells : List ℕ) (h : ℕ) (M′ cells′ : List ℕ) (g : ℕ) : Type 0 where
   pub order : g ≤ h

@@ -215,8 +215,8 @@ fn struck(trail: &[u8], n: usize, from: usize, to: usize) -> u32
 
 // The value of the strike i.
 fn value_at(trail: &[u8], n: usize, i: usize) -> u32
-    requires { ⌜ n + 3 * i + 1 < length (now trail) ⌝ }
+    requires { ⌜ 2 * n + 3 * i + 1 < length (now trail) ⌝ }
     ensures { λ r. ⌜ r ≡ valueAt n (now (trail .entry)) i ⌝ }
 {
-    trail[n + 3 * i + 1] as u32
+    (trail[2 * n + 3 * i + 1] % 32) as u32
 }

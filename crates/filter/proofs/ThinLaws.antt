@@ -1,5 +1,5 @@
--- `thin` from its parts: the fall cannot be (`thin-barred`), or it is made, with the store and what is written on the trail (`thin-made`); its note
--- fits a byte (`thin-note`). And what its two answers say (`thinned-clash`, `thinned-made`). No contract cites this file. Assumes nothing.
+-- `thin` from its parts: the fall cannot be (`thin-barred`), or it is made, with the store and what is written on the trail (`thin-made`); its tag
+-- and note fit a byte (`thin-tag`, `thin-note`). And what its two answers say (`thinned-clash`, `thinned-made`). No contract cites this file. Assumes nothing.
 use mathlib.Core.Path.{_≡_, refl, sym, ap, subst, _∙_}
 use mathlib.Core.Bool.{Bool, true, false}
 use mathlib.Core.List.{List}
@@ -15,7 +15,7 @@ use Rattle.filter_model.specs.State.{Ready, Contradicted, Removed}
 use Rattle.filter_model.specs.Strike.{Dropped}
 use Rattle.filter_model.specs.Trail.{written}
 use Rattle.filter_model.proofs.ContradictionLaws.{contradicted-low}
-use Rattle.filter_model.proofs.RemovalLaws.{low-note, removed-plain}
+use Rattle.filter_model.proofs.RemovalLaws.{low-note, low-tag, removed-plain}
 use Rattle.filter.specs.Filtered.{Told, Thinned}
 
 -- ---- a mask of more than two values, one of them taken out
@@ -58,18 +58,21 @@ module _ {masks cells trail : List ℕ} {n k top slot v : ℕ} (ready : Ready ma
       let barred = told-clash slot (getD cells (v * (n + 1)) 0) cells cells′ told is in
       rw (is, barred .1) (contradicted-low ready has (getD cells (v * (n + 1)) 0) refl (barred .0))
 
-  module _ (wide : 2 < ones (getD masks slot 0)) (is : clash ≡ false) {a x : ℕ}
-      (lent : Lent (v * (n + 1)) (n + 1) (λ l l′. Dropped n slot l l′ a x) cells cells′) where
+  module _ (wide : 2 < ones (getD masks slot 0)) (is : clash ≡ false) {a g x : ℕ}
+      (lent : Lent (v * (n + 1)) (n + 1) (λ l l′. Dropped n slot l l′ a g x) cells cells′) where
     abbrev left : ℕ
     left = clearBit (getD masks slot 0) v
 
     spent-free : getD cells (v * (n + 1)) 0 ≤ slot
     spent-free = told-free slot (getD cells (v * (n + 1)) 0) cells cells′ told is
 
-    pub thin-note : x ≤ slot
+    pub thin-tag : g ≤ 3
+    thin-tag = low-tag ready has left refl (wide-some (getD masks slot 0) v wide) refl spent-free lent
+
+    pub thin-note : x < 256
     thin-note = low-note ready has left refl (wide-some (getD masks slot 0) v wide) refl spent-free lent
 
-    pub thin-made : {masks′ trail′ : List ℕ} → masks′ ≡ set masks slot (clearBit (getD masks slot 0) v) → trail′ ≡ written n trail top slot v x
+    pub thin-made : {masks′ trail′ : List ℕ} → masks′ ≡ set masks slot (clearBit (getD masks slot 0) v) → trail′ ≡ written n trail top slot v g x
         → Thinned n k masks cells trail top masks′ cells′ trail′ slot v x a clash
     thin-made masks-are trail-is =
         rw is

@@ -14,7 +14,7 @@ ghost use Rattle.filter_model.specs.Cuts.{StrikeCut, FixCut, BoundCut};
 ghost use Rattle.filter_model.specs.Mirror.{SettledFrom};
 ghost use Rattle.filter_model.specs.State.{Ready, Pruning};
 ghost use Rattle.filter_model.specs.Strike.{Dropped, Cuts};
-ghost use Rattle.filter_model.specs.Trail.{written};
+ghost use Rattle.filter_model.specs.Trail.{written, noted};
 ghost use Rattle.filter.specs.Filtered.{Filtered, Followed, Removal·Answer, Told, Thinned, Free};
 
 // The trail's height after a call, and whether a stable list may be left.
@@ -30,11 +30,12 @@ enum Removal {
     Made(usize, usize, usize, usize, u32),
 }
 
-// A row's fall: that it cannot be; the end before which all must be settled, or 0; and the note by which the fall is taken back. Where there is
-// such an end, the note is the one before which all was to be settled already.
+// A row's fall: that it cannot be; the end before which all must be settled, or 0; and the tag and the note by which the fall is taken back. Where
+// there is such an end, the note is the one before which all was to be settled already.
 struct Descent {
     clash: bool,
     reach: usize,
+    tag: usize,
     note: usize,
 }
 
@@ -290,7 +291,7 @@ fn strike_one(
     if !domains::is_single(m) {
         store(masks, slot, m);
         let low = fall_row(cells, v, n, slot);
-        push(trail, n, top, slot, v, low.note);
+        push(trail, n, top, slot, v, low.tag, low.note);
         return Removal::Made(low.note, low.reach, 0, 0, 0);
     }
     let w = domains::single_value(m);
@@ -299,9 +300,9 @@ fn strike_one(
     }
     store(masks, slot, m);
     let low = fall_row(cells, v, n, slot);
-    push(trail, n, top, slot, v, low.note);
+    push(trail, n, top, slot, v, low.tag, low.note);
     let high = fall_row(cells, k + w, n, slot);
-    note_fixed(trail, slot, high.note);
+    note_fixed(trail, n, slot, high.tag, high.note);
     Removal::Made(low.note, low.reach, high.note, high.reach, w)
 }
 
@@ -326,39 +327,45 @@ fn thin(
         return fell;
     }
     take_out(masks, slot, v);
-    push(trail, n, top, slot, v, fell.note);
+    push(trail, n, top, slot, v, fell.tag, fell.note);
     fell
 }
 
 // Lowers the slack of a row by one after the slot; where the slot is before the spent corner that is a clash, and the cells stay.
 fn fall_row(cells: &mut [u16], row: u32, n: usize, slot: usize) -> Descent
     requires { ⌜ (slot ≤ n) × (row * (n + 1) + n < length (now cells)) × (n < 1024) ⌝ }
-    ensures { λ r. ⌜ Lent (row * (n + 1)) (n + 1) (λ a b. Dropped n slot a b (r .reach) (r .note)) (now (cells .entry)) (now (cells .exit))
+    ensures { λ r. ⌜ Lent (row * (n + 1)) (n + 1) (λ a b. Dropped n slot a b (r .reach) (r .tag) (r .note)) (now (cells .entry)) (now (cells .exit))
         × Told slot (getD (now (cells .entry)) (row * (n + 1)) 0) (now (cells .entry)) (now (cells .exit)) (r .clash) ⌝ }
 {
     let hit = segments::fall_in(cells, row as usize * (n + 1), n, slot);
     match hit {
-        segments::Hit::Quiet(x) => {
-            return Descent {
-                clash: false,
-                reach: 0,
-                note: x,
-            };
+        segments::Hit::Lowered(t) => {
+            return fell_by(false, 0, 0, t - 1);
+        }
+        segments::Hit::Still => {
+            return fell_by(false, 0, 1, 0);
+        }
+        segments::Hit::Joined(p) => {
+            return fell_by(false, 0, 2, p);
         }
         segments::Hit::Clash => {
-            return Descent {
-                clash: true,
-                reach: 0,
-                note: 0,
-            };
+            return fell_by(true, 0, 1, 0);
         }
-        segments::Hit::Reached(t, x) => {
-            return Descent {
-                clash: false,
-                reach: t,
-                note: x,
-            };
+        segments::Hit::Reached(t, z) => {
+            return fell_by(false, t, 3, z);
         }
+    }
+}
+
+// What a row's fall led to, from its parts.
+fn fell_by(clash: bool, reach: usize, tag: usize, note: usize) -> Descent
+    ensures { λ r. ⌜ (r .clash ≡ clash) × (r .reach ≡ reach) × (r .tag ≡ tag) × (r .note ≡ note) ⌝ }
+{
+    Descent {
+        clash,
+        reach,
+        tag,
+        note,
     }
 }
 
@@ -413,23 +420,25 @@ fn store(masks: &mut [u32], slot: usize, m: u32)
     masks[slot] = m;
 }
 
-// Writes the struck value on the trail, with the note of its lower row's fall.
-fn push(trail: &mut [u8], n: usize, top: usize, slot: usize, v: u32, note: usize)
-    requires { ⌜ (n + 3 * top + 2 < length (now trail)) × (slot < 256) × (v < 32) × (note < 256) ⌝ }
-    ensures { λ _. ⌜ now (trail .exit) ≡ written n (now (trail .entry)) top slot v note ⌝ }
+// Writes the struck value on the trail, with the tag and the note of its lower row's fall.
+fn push(trail: &mut [u8], n: usize, top: usize, slot: usize, v: u32, tag: usize, note: usize)
+    requires { ⌜ (2 * n + 3 * top + 2 < length (now trail)) × (slot < 256) × (v < 32) × (tag ≤ 3) × (note < 256) ⌝ }
+    ensures { λ _. ⌜ now (trail .exit) ≡ written n (now (trail .entry)) top slot v tag note ⌝ }
 {
-    let p = n + 3 * top;
+    let p = 2 * n + 3 * top;
+    let both = v as usize + 32 * tag;
     trail[p] = slot as u8;
-    trail[p + 1] = v as u8;
+    trail[p + 1] = both as u8;
     trail[p + 2] = note as u8;
 }
 
-// Writes the note of the upper row's fall of the slot's only value.
-fn note_fixed(trail: &mut [u8], slot: usize, note: usize)
-    requires { ⌜ (slot < length (now trail)) × (note < 256) ⌝ }
-    ensures { λ _. ⌜ now (trail .exit) ≡ set (now (trail .entry)) slot note ⌝ }
+// Writes the tag and the note of the upper row's fall of the slot's only value.
+fn note_fixed(trail: &mut [u8], n: usize, slot: usize, tag: usize, note: usize)
+    requires { ⌜ (slot < n) × (2 * n ≤ length (now trail)) × (tag ≤ 3) × (note < 256) ⌝ }
+    ensures { λ _. ⌜ now (trail .exit) ≡ noted n (now (trail .entry)) slot tag note ⌝ }
 {
     trail[slot] = note as u8;
+    trail[n + slot] = tag as u8;
 }
 
 fn wide(x: u16) -> usize

@@ -15,26 +15,27 @@ use Rattle.domains.proofs.MaskLaws.{testBit-clearBit-same, ones-empty, ones-cle
 use Rattle.segments_model.specs.Part.{part, Lent}
 use Rattle.segments_model.specs.Raise.{risen}
 use Rattle.segments_model.proofs.PartLaws.{over-back}
+use Rattle.segments_model.proofs.RaiseLaws.{raisable-note}
 use Rattle.filter_model.specs.Mirror.{row, cellsOf}
 use Rattle.filter_model.specs.State.{Ready, Moved, Removed}
 use Rattle.filter_model.specs.Strike.{Dropped}
-use Rattle.filter_model.specs.Trail.{written, RowRaised, TakenBack, Trailed}
+use Rattle.filter_model.specs.Trail.{written, noted, RowRaised, TakenBack, Trailed}
 use Rattle.filter_model.proofs.ContradictionLaws.{left-in}
 use Rattle.filter_model.proofs.RowLaws.{row-inside, row-first, lent-row}
-use Rattle.filter_model.proofs.StateLaws.{moved-strike, ready-slot, ready-room}
+use Rattle.filter_model.proofs.StateLaws.{moved-strike, ready-slot, ready-value, ready-room}
 use Rattle.filter_model.proofs.StoreLaws.{many-free, fixed-unique, strike-lacks}
 use Rattle.filter_model.proofs.StruckLaws.{struck-plain, struck-single}
-use Rattle.filter_model.proofs.TrailLaws.{written-size, putIn-strike, trailed-plain, trailed-single}
+use Rattle.filter_model.proofs.TrailLaws.{written-size, noted-note, noted-tag, putIn-strike, trailed-plain, trailed-single}
 
--- a row's fall is taken back by its note
-row-raised : {n row slot a x : ℕ} {cells cells′ : List ℕ} (rows : ℕ) → Lent (row * (n + 1)) (n + 1) (λ l l′. Dropped n slot l l′ a x) cells cells′
-    → row < rows → rows * (n + 1) ≤ length cells → getD (part (row * (n + 1)) (n + 1) cells) 0 0 ≤ slot → RowRaised n row slot x cells′ cells
-row-raised {n} {row} {slot} {x = x} rows lent row-in fits free =
+-- a row's fall is taken back by its tag and its note
+row-raised : {n row slot a g x : ℕ} {cells cells′ : List ℕ} (rows : ℕ) → Lent (row * (n + 1)) (n + 1) (λ l l′. Dropped n slot l l′ a g x) cells cells′
+    → row < rows → rows * (n + 1) ≤ length cells → getD (part (row * (n + 1)) (n + 1) cells) 0 0 ≤ slot → RowRaised n row slot g x cells′ cells
+row-raised {n} {row} {slot} {g = g} {x = x} rows lent row-in fits free =
     record {
       raisable = lent .does .back free .raisable;
       is =
           sym
-          (over-back (row * (n + 1)) (n + 1) (risen n slot x) (omega (arith, row-inside n rows row row-in))
+          (over-back (row * (n + 1)) (n + 1) (risen n slot g x) (omega (arith, row-inside n rows row row-in))
           (record { does = lent .does .back free .back; size = lent .size; before = lent .before; after = lent .after }));
     }
 
@@ -60,22 +61,25 @@ module _ {masks cells trail : List ℕ} {n k top slot v : ℕ} (ready : Ready ma
       let left : (ones (clearBit (getD masks slot 0) v) ≡ 0 → ⊥) = λ none. some (m-is ∙ ones-empty (clearBit (getD masks slot 0) v) none) in
       omega (arith, left, ones-clearBit (getD masks slot 0) v, has)
 
-  module _ {cells₁ : List ℕ} {z a x : ℕ} (z-is : z ≡ getD cells (v * (n + 1)) 0) (z≤slot : z ≤ slot)
-      (lent₁ : Lent (v * (n + 1)) (n + 1) (λ l l′. Dropped n slot l l′ a x) cells cells₁) where
-    low-raised : RowRaised n v slot x cells₁ cells
+  module _ {cells₁ : List ℕ} {z a g x : ℕ} (z-is : z ≡ getD cells (v * (n + 1)) 0) (z≤slot : z ≤ slot)
+      (lent₁ : Lent (v * (n + 1)) (n + 1) (λ l l′. Dropped n slot l l′ a g x) cells cells₁) where
+    low-raised : RowRaised n v slot g x cells₁ cells
     low-raised = row-raised (k + k) lent₁ (omega (arith, ready .value-in)) (ready .world .rows) (free true v z z-is z≤slot)
 
-    -- the note fits a byte
-    pub low-note : x ≤ slot
-    low-note = low-raised .raisable .low
+    -- the note fits a byte, and the tag what a value leaves of one
+    pub low-note : x < 256
+    low-note = omega (arith, raisable-note (low-raised .raisable) (ready .slot-in), ready .world .slots-fit)
+
+    pub low-tag : g ≤ 3
+    low-tag = low-raised .raisable .known
 
     module _ {masks′ : List ℕ} (masks-are : masks′ ≡ set masks slot m) where
       cut-masks : masks′ ≡ after
       cut-masks = masks-are ∙ ap (λ (y : ℕ). set masks slot y) m-is
 
-      module _ {trail′ : List ℕ} (trail-is : trail′ ≡ written n trail top slot v x) where
+      module _ {trail′ : List ℕ} (trail-is : trail′ ≡ written n trail top slot v g x) where
         -- ---- other values are left
-        taken-plain : (ones m ≡ 1 → ⊥) → TakenBack n k trail′ slot v x after cells₁ masks cells
+        taken-plain : (ones m ≡ 1 → ⊥) → TakenBack n k trail′ slot v g x after cells₁ masks cells
         taken-plain many =
             record {
               slot-in = ready .slot-in;
@@ -92,34 +96,38 @@ module _ {masks cells trail : List ℕ} {n k top slot v : ℕ} (ready : Ready ma
         removed-plain many =
             rw (cut-masks, trail-is)
             (record {
-              moved = moved (lent₁ .size) (trailed-plain (ready-room ready has) (rw trail-is at (taken-plain many)));
+              moved = moved (lent₁ .size) (trailed-plain (ready-room ready has) (ready-value ready) (rw trail-is at (taken-plain many)));
               cut = strike-lacks masks slot v (ready-slot ready);
               low-in = lent₁ .does .inside;
               high-in = zero-le;
               value-in = omega (arith, ready .value-in);
               tables = λ T mirror.
-                  struck-plain mirror slot v (ready-slot ready) (ready .value-in) has cells₁ a x (ready .world .rows) (λ none. some (m-is ∙ none)) lent₁
+                  struck-plain mirror slot v (ready-slot ready) (ready .value-in) has cells₁ a (ready .world .rows) (λ none. some (m-is ∙ none)) lent₁
                   (free true v z z-is z≤slot) (λ w fixed. many-free m many w (m-is ∙ fixed));
             })
 
         -- ---- w is the only value that is left
-        module _ {cells₂ : List ℕ} (w : ℕ) {u b y : ℕ} (single : Fixed m w) (u-is : u ≡ getD cells ((k + w) * (n + 1)) 0) (u≤slot : u ≤ slot)
-            (lent₂ : Lent ((k + w) * (n + 1)) (n + 1) (λ l l′. Dropped n slot l l′ b y) cells₁ cells₂) where
+        module _ {cells₂ : List ℕ} (w : ℕ) {u b f y : ℕ} (single : Fixed m w) (u-is : u ≡ getD cells ((k + w) * (n + 1)) 0) (u≤slot : u ≤ slot)
+            (lent₂ : Lent ((k + w) * (n + 1)) (n + 1) (λ l l′. Dropped n slot l l′ b f y) cells₁ cells₂) where
           w<k : w < k
           w<k = left-in slot v w (ready .world) (sym m-is ∙ single)
 
-          high-raised : RowRaised n (k + w) slot y cells₂ cells₁
+          high-raised : RowRaised n (k + w) slot f y cells₂ cells₁
           high-raised =
               let same = lent-row n (k + k) v (k + w) lent₁ (ready .world .rows) (omega (arith, w<k)) (λ e. absurd (omega (arith, ready .value-in))) in
               row-raised (k + k) lent₂ (omega (arith, w<k)) (omega (arith, lent₁ .size, ready .world .rows)) (rw same (free false w u u-is u≤slot))
 
-          pub high-note : y ≤ slot
-          high-note = high-raised .raisable .low
+          pub high-note : y < 256
+          high-note = omega (arith, raisable-note (high-raised .raisable) (ready .slot-in), ready .world .slots-fit)
 
-          module _ {trail″ : List ℕ} (note-is : trail″ ≡ set trail′ slot y) where
-            taken-single : TakenBack n k (set (written n trail top slot v x) slot y) slot v x after cells₂ masks cells
+          pub high-tag : f ≤ 3
+          high-tag = high-raised .raisable .known
+
+          module _ {trail″ : List ℕ} (note-is : trail″ ≡ noted n trail′ slot f y) where
+            taken-single : TakenBack n k (noted n (written n trail top slot v g x) slot f y) slot v g x after cells₂ masks cells
             taken-single =
-                let long : slot < length (written n trail top slot v x) = omega (arith, written-size n trail top slot v x, ready-room ready has, ready .slot-in) in
+                let on = written n trail top slot v g x in
+                let long : 2 * n ≤ length on = omega (arith, written-size n trail top slot v g x, ready-room ready has) in
                 record {
                   slot-in = ready .slot-in;
                   inside = omega (arith, length-set masks slot (clearBit (getD masks slot 0) v), ready-slot ready);
@@ -130,7 +138,7 @@ module _ {masks cells trail : List ℕ} {n k top slot v : ℕ} (ready : Ready ma
                   upper = record {
                     fixed = λ q fixed.
                         let same : q ≡ w = fixed-unique m q w (m-is ∙ sym left-at ∙ fixed) single in
-                        rw (same, getD-set-same (written n trail top slot v x) slot y 0 long) (w<k, high-raised);
+                        rw (same, noted-note n on slot f y (ready .slot-in) long, noted-tag n on slot f y (ready .slot-in) long) (w<k, high-raised);
                     free = λ none. absurd (none w (left-at ∙ sym m-is ∙ single));
                   };
                   lower = low-raised;
@@ -140,12 +148,12 @@ module _ {masks cells trail : List ℕ} {n k top slot v : ℕ} (ready : Ready ma
             removed-single =
                 rw (cut-masks, note-is, trail-is)
                 (record {
-                  moved = moved (lent₂ .size ∙ lent₁ .size) (trailed-single (ready-room ready has) y (ready .slot-in) many-before taken-single);
+                  moved = moved (lent₂ .size ∙ lent₁ .size) (trailed-single (ready-room ready has) (ready-value ready) f y (ready .slot-in) many-before taken-single);
                   cut = strike-lacks masks slot v (ready-slot ready);
                   low-in = lent₁ .does .inside;
                   high-in = lent₂ .does .inside;
                   value-in = w<k;
                   tables = λ T mirror.
-                      struck-single mirror slot v (ready-slot ready) (ready .value-in) has cells₁ a x (ready .world .rows) (λ none. some (m-is ∙ none))
-                      lent₁ (free true v z z-is z≤slot) cells₂ w b y w<k (sym m-is ∙ single) lent₂ (free false w u u-is u≤slot);
+                      struck-single mirror slot v (ready-slot ready) (ready .value-in) has cells₁ a (ready .world .rows) (λ none. some (m-is ∙ none))
+                      lent₁ (free true v z z-is z≤slot) cells₂ w b w<k (sym m-is ∙ single) lent₂ (free false w u u-is u≤slot);
                 })

@@ -94,5 +94,5 @@ module _ {masks cells trail : List ℕ} {n k top slot v : ℕ} (ready : Ready ma
   ready-value = omega (arith, ready .value-in, ready .world .values-fit)
 
   -- a value that is there has room on the trail
-  pub ready-room : HasAt masks slot v → n + 3 * top + 2 < length trail
+  pub ready-room : HasAt masks slot v → 2 * n + 3 * top + 2 < length trail
   ready-room has = omega (arith, ready .world .room, total-clearBit masks slot v ready-slot, has)

@@ -54,8 +54,8 @@ module _ {n k : ℕ} {T : Table} {M cells : List ℕ} (mirror : Mirror n k T M c
         }
 
   -- ---- the lower row of v
-  module _ (cells₁ : List ℕ) (a x₁ : ℕ) (fits : (k + k) * (n + 1) ≤ length cells) (some : left ≡ 0 → ⊥)
-      (lent₁ : Lent (v * (n + 1)) (n + 1) (λ l l′. Dropped n slot l l′ a x₁) cells cells₁) (free₁ : getD (cellsOf true n k v cells) 0 0 ≤ slot) where
+  module _ (cells₁ : List ℕ) (a : ℕ) {g₁ x₁ : ℕ} (fits : (k + k) * (n + 1) ≤ length cells) (some : left ≡ 0 → ⊥)
+      (lent₁ : Lent (v * (n + 1)) (n + 1) (λ l l′. Dropped n slot l l′ a g₁ x₁) cells cells₁) (free₁ : getD (cellsOf true n k v cells) 0 0 ≤ slot) where
     low-change : Change true (getD M slot 0) left v 1
     low-change = omega (arith, has, testBit-clearBit-same (getD M slot 0) v)
 
@@ -91,8 +91,8 @@ module _ {n k : ℕ} {T : Table} {M cells : List ℕ} (mirror : Mirror n k T M c
           (reach-met mirror cells₁ slot left inside true v v<k a low-change low-reach) (λ 0<0. absurd (omega arith))
 
     -- ---- the upper row of w, the only value that is left
-    module _ (cells₂ : List ℕ) (w b x₂ : ℕ) (w<k : w < k) (single : Fixed left w)
-        (lent₂ : Lent ((k + w) * (n + 1)) (n + 1) (λ l l′. Dropped n slot l l′ b x₂) cells₁ cells₂)
+    module _ (cells₂ : List ℕ) (w b : ℕ) {g₂ x₂ : ℕ} (w<k : w < k) (single : Fixed left w)
+        (lent₂ : Lent ((k + w) * (n + 1)) (n + 1) (λ l l′. Dropped n slot l l′ b g₂ x₂) cells₁ cells₂)
         (free₂ : getD (cellsOf false n k w cells) 0 0 ≤ slot) where
       same₂ : (kind : Bool) (x : ℕ) → x < k → (row kind k x ≡ k + w → ⊥) → cellsOf kind n k x cells₂ ≡ cellsOf kind n k x cells₁
       same₂ true x x<k other = lent-row n (k + k) (k + w) x lent₂ (omega (arith, lent₁ .size)) (omega arith) other

@@ -4,7 +4,7 @@
 use mathlib.Core.Path.{_≡_, refl, sym, ap, _∙_}
 use mathlib.Core.Logic.{dite}
 use mathlib.Core.List.{List}
-use Prim.Native.Nat.{ℕ, zero, suc, _+_, _-_, _*_, _^_, _≤_, _<_, zero-le}
+use Prim.Native.Nat.{ℕ, zero, suc, _+_, _-_, _*_, _/_, _%_, _^_, _≤_, _<_, zero-le}
 use native.Mathlib.Nat.{le-refl, le-trans, le-of-eq, add-zero, add-suc, add-assoc, sub-self}
 use native.Mathlib.Decide.{ℕ-discrete}
 use native.Mathlib.Omega.{arith}
@@ -16,35 +16,60 @@ use Rattle.domains.specs.Masks.{HasAt, FixedAt, Subset}
 use Rattle.domains.proofs.MaskLaws.{clearBit-has, testBit-clearBit-same, testBit-put-other, ones-subset, fixed-single}
 use Rattle.domains.proofs.MasksLaws.{subset-refl, subset-trans}
 use Rattle.settling_model.specs.Settled.{LacksAt}
-use Rattle.filter_model.specs.Trail.{slotAt, valueAt, noteAt, written, putIn, RowRaised, TakenBack, Restores, Kept, Trailed}
+use Rattle.filter_model.specs.Trail.{slotAt, valueAt, tagAt, noteAt, written, noted, putIn, RowRaised, TakenBack, Restores, Kept, Trailed}
 
 -- ---- written
-module _ (n : ℕ) (trail : List ℕ) (i slot v x : ℕ) where
-  pub written-size : length (written n trail i slot v x) ≡ length trail
+module _ (n : ℕ) (trail : List ℕ) (i slot v g x : ℕ) where
+  pub written-size : length (written n trail i slot v g x) ≡ length trail
   written-size = simp length-set
 
-  written-other : (p : ℕ) → (p < n + 3 * i) → getD (written n trail i slot v x) p 0 ≡ getD trail p 0
+  written-other : (p : ℕ) → (p < 2 * n + 3 * i) → getD (written n trail i slot v g x) p 0 ≡ getD trail p 0
   written-other p below =
-      getD-set-other (set (set trail (n + 3 * i) slot) (n + 3 * i + 1) v) (n + 3 * i + 2) p x 0 (λ e. absurd (omega arith))
-      ∙ getD-set-other (set trail (n + 3 * i) slot) (n + 3 * i + 1) p v 0 (λ e. absurd (omega arith))
-      ∙ getD-set-other trail (n + 3 * i) p slot 0 (λ e. absurd (omega arith))
+      getD-set-other (set (set trail (2 * n + 3 * i) slot) (2 * n + 3 * i + 1) (v + 32 * g)) (2 * n + 3 * i + 2) p x 0 (λ e. absurd (omega arith))
+      ∙ getD-set-other (set trail (2 * n + 3 * i) slot) (2 * n + 3 * i + 1) p (v + 32 * g) 0 (λ e. absurd (omega arith))
+      ∙ getD-set-other trail (2 * n + 3 * i) p slot 0 (λ e. absurd (omega arith))
 
-  module _ (room : n + 3 * i + 2 < length trail) where
-    written-slot : slotAt n (written n trail i slot v x) i ≡ slot
+  module _ (room : 2 * n + 3 * i + 2 < length trail) where
+    written-slot : slotAt n (written n trail i slot v g x) i ≡ slot
     written-slot =
-        getD-set-other (set (set trail (n + 3 * i) slot) (n + 3 * i + 1) v) (n + 3 * i + 2) (n + 3 * i) x 0 (λ e. absurd (omega arith))
-        ∙ getD-set-other (set trail (n + 3 * i) slot) (n + 3 * i + 1) (n + 3 * i) v 0 (λ e. absurd (omega arith))
-        ∙ getD-set-same trail (n + 3 * i) slot 0 (omega arith)
+        getD-set-other (set (set trail (2 * n + 3 * i) slot) (2 * n + 3 * i + 1) (v + 32 * g)) (2 * n + 3 * i + 2) (2 * n + 3 * i) x 0
+        (λ e. absurd (omega arith))
+        ∙ getD-set-other (set trail (2 * n + 3 * i) slot) (2 * n + 3 * i + 1) (2 * n + 3 * i) (v + 32 * g) 0 (λ e. absurd (omega arith))
+        ∙ getD-set-same trail (2 * n + 3 * i) slot 0 (omega arith)
 
-    written-value : valueAt n (written n trail i slot v x) i ≡ v
-    written-value =
-        getD-set-other (set (set trail (n + 3 * i) slot) (n + 3 * i + 1) v) (n + 3 * i + 2) (n + 3 * i + 1) x 0 (λ e. absurd (omega arith))
-        ∙ getD-set-same (set trail (n + 3 * i) slot) (n + 3 * i + 1) v 0 (omega (arith, length-set trail (n + 3 * i) slot))
+    -- the value and the tag, in one byte
+    written-both : getD (written n trail i slot v g x) (2 * n + 3 * i + 1) 0 ≡ v + 32 * g
+    written-both =
+        getD-set-other (set (set trail (2 * n + 3 * i) slot) (2 * n + 3 * i + 1) (v + 32 * g)) (2 * n + 3 * i + 2) (2 * n + 3 * i + 1) x 0
+        (λ e. absurd (omega arith))
+        ∙ getD-set-same (set trail (2 * n + 3 * i) slot) (2 * n + 3 * i + 1) (v + 32 * g) 0 (omega (arith, length-set trail (2 * n + 3 * i) slot))
 
-    written-note : noteAt n (written n trail i slot v x) i ≡ x
+    written-note : noteAt n (written n trail i slot v g x) i ≡ x
     written-note =
-        getD-set-same (set (set trail (n + 3 * i) slot) (n + 3 * i + 1) v) (n + 3 * i + 2) x 0
-        (omega (arith, length-set trail (n + 3 * i) slot, length-set (set trail (n + 3 * i) slot) (n + 3 * i + 1) v))
+        getD-set-same (set (set trail (2 * n + 3 * i) slot) (2 * n + 3 * i + 1) (v + 32 * g)) (2 * n + 3 * i + 2) x 0
+        (omega (arith, length-set trail (2 * n + 3 * i) slot, length-set (set trail (2 * n + 3 * i) slot) (2 * n + 3 * i + 1) (v + 32 * g)))
+
+both-value : (b v g : ℕ) → b ≡ v + 32 * g → v < 32 → b % 32 ≡ v
+both-value b v g is v<32 = omega arith
+
+both-tag : (b v g : ℕ) → b ≡ v + 32 * g → v < 32 → b / 32 ≡ g
+both-tag b v g is v<32 = omega arith
+
+-- ---- noted
+module _ (n : ℕ) (trail : List ℕ) (slot g x : ℕ) where
+  pub noted-size : length (noted n trail slot g x) ≡ length trail
+  noted-size = simp length-set
+
+  noted-other : (p : ℕ) → (p ≡ slot → ⊥) → (p ≡ n + slot → ⊥) → getD (noted n trail slot g x) p 0 ≡ getD trail p 0
+  noted-other p not-note not-tag = getD-set-other (set trail slot x) (n + slot) p g 0 not-tag ∙ getD-set-other trail slot p x 0 not-note
+
+  module _ (slot<n : slot < n) (room : 2 * n ≤ length trail) where
+    pub noted-note : getD (noted n trail slot g x) slot 0 ≡ x
+    noted-note =
+        getD-set-other (set trail slot x) (n + slot) slot g 0 (λ e. absurd (omega arith)) ∙ getD-set-same trail slot x 0 (omega arith)
+
+    pub noted-tag : getD (noted n trail slot g x) (n + slot) 0 ≡ g
+    noted-tag = getD-set-same (set trail slot x) (n + slot) g 0 (omega (arith, length-set trail slot x))
 
 -- ---- putIn
 -- what a strike takes out is put back
@@ -66,12 +91,14 @@ putIn-larger M slot v inside lacks =
     }
 
 -- ---- TakenBack
-module _ {n k : ℕ} {trail : List ℕ} {slot v x : ℕ} {M′ c′ M c : List ℕ} (taken : TakenBack n k trail slot v x M′ c′ M c) where
+module _ {n k : ℕ} {trail : List ℕ} {slot v g x : ℕ} {M′ c′ M c : List ℕ} (taken : TakenBack n k trail slot v g x M′ c′ M c) where
   pub taken-larger : Subset M′ M
   taken-larger = rw (taken .masks-are) (putIn-larger M′ slot v (taken .inside) (taken .lacks))
 
-  -- another trail with the slot's note, where it is fixed
-  taken-same : (trail′ : List ℕ) → ((w : ℕ) → FixedAt M′ slot w → getD trail′ slot 0 ≡ getD trail slot 0) → TakenBack n k trail′ slot v x M′ c′ M c
+  -- another trail with the slot's note and tag, where it is fixed
+  taken-same : (trail′ : List ℕ)
+      → ((w : ℕ) → FixedAt M′ slot w → (getD trail′ slot 0 ≡ getD trail slot 0) × (getD trail′ (n + slot) 0 ≡ getD trail (n + slot) 0))
+      → TakenBack n k trail′ slot v g x M′ c′ M c
   taken-same trail′ same =
       record {
         slot-in = taken .slot-in;
@@ -80,7 +107,7 @@ module _ {n k : ℕ} {trail : List ℕ} {slot v x : ℕ} {M′ c′ M c : List �
         lacks = taken .lacks;
         masks-are = taken .masks-are;
         between = taken .between;
-        upper = record { fixed = λ w fixed. rw (same w fixed) (taken .upper .fixed w fixed); free = taken .upper .free };
+        upper = record { fixed = λ w fixed. rw (same w fixed .0, same w fixed .1) (taken .upper .fixed w fixed); free = taken .upper .free };
         lower = taken .lower;
       }
 
@@ -95,20 +122,20 @@ unfolding Restores
 restores-done n k trail from M′ c′ M c restores = restores
 
 -- the latest strike is taken back first
-pub record Next (n k : ℕ) (trail : List ℕ) (from j slot v x : ℕ) (M′ c′ M c : List ℕ) : Type 0 where
+pub record Next (n k : ℕ) (trail : List ℕ) (from j slot v g x : ℕ) (M′ c′ M c : List ℕ) : Type 0 where
   pub masks : List ℕ
   pub cells : List ℕ
-  pub taken : TakenBack n k trail slot v x M′ c′ masks cells
+  pub taken : TakenBack n k trail slot v g x M′ c′ masks cells
   pub rest : Restores n k trail from j masks cells M c
 
 pub restores-next : (n k : ℕ) (trail : List ℕ) (from j : ℕ) (M′ c′ M c : List ℕ) → Restores n k trail from (suc j) M′ c′ M c
-    → Next n k trail from j (slotAt n trail (from + j)) (valueAt n trail (from + j)) (noteAt n trail (from + j)) M′ c′ M c
+    → Next n k trail from j (slotAt n trail (from + j)) (valueAt n trail (from + j)) (tagAt n trail (from + j)) (noteAt n trail (from + j)) M′ c′ M c
 unfolding Restores
 restores-next n k trail from j M′ c′ M c restores =
     record { masks = restores .0; cells = restores .1; taken = restores .2; rest = restores .3 }
 
 next-restores : (n k : ℕ) (trail : List ℕ) (from j : ℕ) (M′ c′ M c : List ℕ)
-    → Next n k trail from j (slotAt n trail (from + j)) (valueAt n trail (from + j)) (noteAt n trail (from + j)) M′ c′ M c
+    → Next n k trail from j (slotAt n trail (from + j)) (valueAt n trail (from + j)) (tagAt n trail (from + j)) (noteAt n trail (from + j)) M′ c′ M c
     → Restores n k trail from (suc j) M′ c′ M c
 unfolding Restores
 next-restores n k trail from j M′ c′ M c next = (next .masks, next .cells, next .taken, next .rest)
@@ -122,21 +149,25 @@ restores-larger n k trail from (suc j) M′ c′ M c restores =
 
 -- ---- Kept
 pub kept-refl : (n : ℕ) (M trail : List ℕ) (h : ℕ) → Kept n M trail h trail
-kept-refl n M trail h = record { below = λ i n≤i i<. refl; notes = λ s s<n few. refl }
+kept-refl n M trail h = record { below = λ i n≤i i<. refl; notes = λ s s<n few. refl; tags = λ s s<n few. refl }
 
 pub kept-trans : {n : ℕ} {M t₀ t₁ t₂ : List ℕ} {h : ℕ} → Kept n M t₀ h t₁ → Kept n M t₁ h t₂ → Kept n M t₀ h t₂
 kept-trans first second =
     record {
       below = λ i n≤i i<. second .below i n≤i i< ∙ first .below i n≤i i<;
       notes = λ s s<n few. second .notes s s<n few ∙ first .notes s s<n few;
+      tags = λ s s<n few. second .tags s s<n few ∙ first .tags s s<n few;
     }
 
 -- larger masks, and a lower height
 pub kept-less : {n : ℕ} {M′ M trail trail′ : List ℕ} {h g : ℕ} → Subset M′ M → g ≤ h → Kept n M′ trail h trail′ → Kept n M trail g trail′
 kept-less {M′ = M′} {M = M} M′⊆M g≤h kept =
+    let still : (s : ℕ) → ones (getD M s 0) ≤ 1 → ones (getD M′ s 0) ≤ 1 =
+    λ s few. le-trans (ones-subset (getD M′ s 0) (getD M s 0) (λ v. M′⊆M .bits s v)) few in
     record {
       below = λ i n≤i i<. kept .below i n≤i (omega arith);
-      notes = λ s s<n few. kept .notes s s<n (le-trans (ones-subset (getD M′ s 0) (getD M s 0) (λ v. M′⊆M .bits s v)) few);
+      notes = λ s s<n few. kept .notes s s<n (still s few);
+      tags = λ s s<n few. kept .tags s s<n (still s few);
     }
 
 -- the strikes are restored as well by a trail that keeps them
@@ -147,13 +178,17 @@ restores-same n k trail trail′ from zero M′ c′ M c kept restores = restore
 restores-same n k trail trail′ from (suc j) M′ c′ M c kept restores =
     let taken = restores .2 in
     rw (
-      kept .below (n + 3 * (from + j)) (omega arith) (omega arith),
-      kept .below (n + 3 * (from + j) + 1) (omega arith) (omega arith),
-      kept .below (n + 3 * (from + j) + 2) (omega arith) (omega arith),
+      kept .below (2 * n + 3 * (from + j)) (omega arith) (omega arith),
+      kept .below (2 * n + 3 * (from + j) + 1) (omega arith) (omega arith),
+      kept .below (2 * n + 3 * (from + j) + 2) (omega arith) (omega arith),
     ) (
       restores .0,
       restores .1,
-      taken-same taken trail′ (λ w fixed. kept .notes (slotAt n trail (from + j)) (taken .slot-in) (le-of-eq (fixed-single _ w fixed))),
+      taken-same taken trail′
+          (λ w fixed.
+          let few = le-of-eq (fixed-single _ w fixed) in
+          let slot = slotAt n trail (from + j) in
+          (kept .notes slot (taken .slot-in) few, kept .tags slot (taken .slot-in) few)),
       restores-same n k trail trail′ from j (restores .0) (restores .1) M c (kept-less (taken-larger taken) (omega arith) kept) (restores .3),
     )
 
@@ -189,13 +224,14 @@ trailed-trans {n} {k} {M₀} {c₀} {t₀} {M₁} {c₁} {t₁} {M₂} {c₂} {t
     }
 
 -- one value struck: its three bytes are on a trail that keeps the rest
-module _ {n k : ℕ} {M c trail M′ c′ trail′ : List ℕ} {top slot v x : ℕ} (size : length trail′ ≡ length trail) (kept : Kept n M trail top trail′)
-    (slot-is : slotAt n trail′ top ≡ slot) (value-is : valueAt n trail′ top ≡ v) (note-is : noteAt n trail′ top ≡ x)
-    (taken : TakenBack n k trail′ slot v x M′ c′ M c) where
+module _ {n k : ℕ} {M c trail M′ c′ trail′ : List ℕ} {top slot v g x : ℕ} (size : length trail′ ≡ length trail) (kept : Kept n M trail top trail′)
+    (slot-is : slotAt n trail′ top ≡ slot) (both-are : getD trail′ (2 * n + 3 * top + 1) 0 ≡ v + 32 * g) (v<32 : v < 32)
+    (note-is : noteAt n trail′ top ≡ x) (taken : TakenBack n k trail′ slot v g x M′ c′ M c) where
   trailed-one : Trailed n k M c trail top M′ c′ trail′ (top + 1)
   trailed-one =
       let one : top + 1 - top ≡ 1 = omega arith in
       let same : top + 0 ≡ top = omega arith in
+      let b = getD trail′ (2 * n + 3 * top + 1) 0 in
       record {
         size = size;
         up = omega arith;
@@ -203,34 +239,42 @@ module _ {n k : ℕ} {M c trail M′ c′ trail′ : List ℕ} {top slot v x : �
         back =
             rw one
             (next-restores n k trail′ top 0 M′ c′ M c
-            (rw (same, slot-is, value-is, note-is) (record { masks = M; cells = c; taken = taken; rest = restores-none n k trail′ top M c })));
+            (rw (same, slot-is, both-value b v g both-are v<32, both-tag b v g both-are v<32, note-is)
+            (record { masks = M; cells = c; taken = taken; rest = restores-none n k trail′ top M c })));
       }
 
-module _ {n k : ℕ} {M c trail M′ c′ : List ℕ} {top slot v x : ℕ} (room : n + 3 * top + 2 < length trail) where
+module _ {n k : ℕ} {M c trail M′ c′ : List ℕ} {top slot v g x : ℕ} (room : 2 * n + 3 * top + 2 < length trail) (v<32 : v < 32) where
   -- the slot is not fixed
-  pub trailed-plain : TakenBack n k (written n trail top slot v x) slot v x M′ c′ M c
-      → Trailed n k M c trail top M′ c′ (written n trail top slot v x) (top + 1)
+  pub trailed-plain : TakenBack n k (written n trail top slot v g x) slot v g x M′ c′ M c
+      → Trailed n k M c trail top M′ c′ (written n trail top slot v g x) (top + 1)
   trailed-plain taken =
-      trailed-one (written-size n trail top slot v x)
+      trailed-one (written-size n trail top slot v g x)
       (record {
-        below = λ i n≤i i<. written-other n trail top slot v x i i<;
-        notes = λ s s<n few. written-other n trail top slot v x s (omega arith);
+        below = λ i n≤i i<. written-other n trail top slot v g x i i<;
+        notes = λ s s<n few. written-other n trail top slot v g x s (omega arith);
+        tags = λ s s<n few. written-other n trail top slot v g x (n + s) (omega arith);
       })
-      (written-slot n trail top slot v x room) (written-value n trail top slot v x room) (written-note n trail top slot v x room) taken
+      (written-slot n trail top slot v g x room) (written-both n trail top slot v g x room) v<32 (written-note n trail top slot v g x room) taken
 
-  -- the slot gets its only value, and the note y
-  pub trailed-single : (y : ℕ) → slot < n → 1 < ones (getD M slot 0) → TakenBack n k (set (written n trail top slot v x) slot y) slot v x M′ c′ M c
-      → Trailed n k M c trail top M′ c′ (set (written n trail top slot v x) slot y) (top + 1)
-  trailed-single y slot<n many taken =
-      let w = written n trail top slot v x in
-      let above : (p : ℕ) → n ≤ p → getD (set w slot y) p 0 ≡ getD w p 0 = λ p n≤p. getD-set-other w slot p y 0 (λ e. absurd (omega arith)) in
-      trailed-one (length-set w slot y ∙ written-size n trail top slot v x)
+  -- the slot gets its only value, the tag f and the note y
+  pub trailed-single : (f y : ℕ) → slot < n → 1 < ones (getD M slot 0)
+      → TakenBack n k (noted n (written n trail top slot v g x) slot f y) slot v g x M′ c′ M c
+      → Trailed n k M c trail top M′ c′ (noted n (written n trail top slot v g x) slot f y) (top + 1)
+  trailed-single f y slot<n many taken =
+      let w = written n trail top slot v g x in
+      let above : (p : ℕ) → 2 * n ≤ p → getD (noted n w slot f y) p 0 ≡ getD w p 0 =
+      λ p n≤p. noted-other n w slot f y p (λ e. absurd (omega arith)) (λ e. absurd (omega arith)) in
+      let other : (s : ℕ) → ones (getD M s 0) ≤ 1 → s ≡ slot → ⊥ =
+      λ s few same. omega (arith, ap (λ (i : ℕ). ones (getD M i 0)) same) in
+      trailed-one (noted-size n w slot f y ∙ written-size n trail top slot v g x)
       (record {
-        below = λ i n≤i i<. above i n≤i ∙ written-other n trail top slot v x i i<;
+        below = λ i n≤i i<. above i n≤i ∙ written-other n trail top slot v g x i i<;
         notes = λ s s<n few.
-            getD-set-other w slot s y 0 (λ same. absurd (omega (arith, ap (λ (i : ℕ). ones (getD M i 0)) same)))
-            ∙ written-other n trail top slot v x s (omega arith);
+            noted-other n w slot f y s (other s few) (λ e. absurd (omega arith)) ∙ written-other n trail top slot v g x s (omega arith);
+        tags = λ s s<n few.
+            noted-other n w slot f y (n + s) (λ e. absurd (omega arith)) (λ e. other s few (omega arith))
+            ∙ written-other n trail top slot v g x (n + s) (omega arith);
       })
-      (above (n + 3 * top) (omega arith) ∙ written-slot n trail top slot v x room)
-      (above (n + 3 * top + 1) (omega arith) ∙ written-value n trail top slot v x room)
-      (above (n + 3 * top + 2) (omega arith) ∙ written-note n trail top slot v x room) taken
+      (above (2 * n + 3 * top) (omega arith) ∙ written-slot n trail top slot v g x room)
+      (above (2 * n + 3 * top + 1) (omega arith) ∙ written-both n trail top slot v g x room) v<32
+      (above (2 * n + 3 * top + 2) (omega arith) ∙ written-note n trail top slot v g x room) taken

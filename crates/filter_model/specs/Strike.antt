@@ -1,7 +1,7 @@
 -- One whole strike of a value v at a slot, from the masks M to M′: v leaves the slot, and the slacks that this lowers are brought up to date.
 --   Reach n C f slot cells′ r   the slack f of a row with the corners C fell by one after the slot; before r all must be settled (0: nothing)
 --   Dropped n slot cells ..     the same for whichever corners and slack the cells hold, where the slot is not before the spent corner; and the
---                               note x takes the fall back, and is the spent corner before it where another is reached
+--                               tag g and the note x take the fall back, and x is the spent corner before it where another is reached
 --   Due kind v a w b q t        all before t is to be settled for q: the reach of v's lower bound is a, and that of w's upper bound is b
 --   Cuts M′ v a w b N           N lies within M′ and meets the cuts of these two reaches
 --   Struck n k T M M′ ..        for a table T: the cells mirror it, newly spent corners are due, the slots before the notes x and y are before a
@@ -29,11 +29,11 @@ pub record Reach (n : ℕ) (C : ℕ → Bool) (f : ℕ → ℕ) (slot : ℕ) (ce
   pub past : (u : ℕ) → slot < u → r < u → u ≤ n → C u ≡ true → 1 < f u
   pub meets : 0 < r → Meets n C f slot 1 r
 
-pub record Dropped (n slot : ℕ) (cells cells′ : List ℕ) (r x : ℕ) : Type 0 where
+pub record Dropped (n slot : ℕ) (cells cells′ : List ℕ) (r g x : ℕ) : Type 0 where
   pub size : length cells′ ≡ length cells
   pub inside : r ≤ n
   pub reach : (C : ℕ → Bool) (f : ℕ → ℕ) → Held n C f cells → getD cells 0 0 ≤ slot → Reach n C f slot cells′ r
-  pub back : getD cells 0 0 ≤ slot → Reversal n slot x cells cells′
+  pub back : getD cells 0 0 ≤ slot → Reversal n slot g x cells cells′
   pub from : 0 < r → x ≡ getD cells 0 0
 
 abbrev pub Due : Bool → ℕ → ℕ → ℕ → ℕ → ℕ → ℕ → Type 0

@@ -1,23 +1,24 @@
--- The trail, a list of bytes: first one for each of the n slots, the note of the upper fall that was made when the slot got its only value; then
--- three for each value that was struck, the latest on top: the slot, the value, and the note of the lower fall. What a note tells is in
--- segments_model's `specs/Raise.antt`.
---   slotAt, valueAt, noteAt    the three bytes of the strike i
---   written n trail i ..       the trail with the strike i written
+-- The trail, a list of bytes: first two for each of the n slots, the note (byte s) and the tag (byte n + s) of the upper fall that was made when the
+-- slot got its only value; then three for each value that was struck, the latest on top: the slot, the value with 32 times the tag of the lower
+-- fall, and that fall's note. What a tag and a note tell is in segments_model's `specs/Raise.antt`.
+--   slotAt, valueAt, tagAt, noteAt   what the three bytes of the strike i tell
+--   written n trail i ..       the trail with the strike i written: tag g and note x
+--   noted n trail slot g x     the trail with the slot's own tag g and note x
 --   putIn M slot v             M with v put into the slot
---   RowRaised n row slot x ..  the row's fall after the slot is taken back by the note x
+--   RowRaised n row slot g x ..  the row's fall after the slot is taken back by the tag g and the note x
 --   UpperRaised n k trail ..   where the slot is fixed in M′, the fall of that value's upper row is taken back
 --   TakenBack n k trail ..     a strike of v at the slot is taken back, from M′ and cells′ to M and cells: such an upper fall, then the fall of v's
 --                              lower row, and v is put in
 --   StrikeBack n k trail i     the strike i is taken back
 --   Restores n k trail from j  the j strikes from `from` on, taken back the latest first, lead from M′ and cells′ to M and cells
---   Kept n M trail h trail′    the strikes below h are the same, and the notes of the slots that have one value, or none, in M
+--   Kept n M trail h trail′    the strikes below h are the same, and the notes and tags of the slots that have one value, or none, in M
 --   Trailed n k M cells trail top ..   from M and cells at height top to M′ and cells′ at height h: the strikes from top on, taken back, lead to
 --                                      M and cells, and what those below need is kept
 -- No other definition looks into the trail; `trailed-trans` is its law of transitivity.
 -- Assumes nothing.
 use mathlib.Core.Path.{_≡_}
 use mathlib.Core.List.{List}
-use Prim.Native.Nat.{ℕ, zero, suc, _+_, _-_, _*_, _^_, _≤_, _<_}
+use Prim.Native.Nat.{ℕ, zero, suc, _+_, _-_, _*_, _/_, _%_, _^_, _≤_, _<_}
 use lib.Count.{ones}
 use lib.ListN.{length, getD, set}
 use Rattle.domains.specs.Masks.{FixedAt}
@@ -26,29 +27,35 @@ use Rattle.segments_model.specs.Part.{part, over}
 use Rattle.segments_model.specs.Raise.{risen, Raisable}
 
 abbrev pub slotAt : ℕ → List ℕ → ℕ → ℕ
-slotAt n trail i = getD trail (n + 3 * i) 0
+slotAt n trail i = getD trail (2 * n + 3 * i) 0
 
 abbrev pub valueAt : ℕ → List ℕ → ℕ → ℕ
-valueAt n trail i = getD trail (n + 3 * i + 1) 0
+valueAt n trail i = getD trail (2 * n + 3 * i + 1) 0 % 32
+
+abbrev pub tagAt : ℕ → List ℕ → ℕ → ℕ
+tagAt n trail i = getD trail (2 * n + 3 * i + 1) 0 / 32
 
 abbrev pub noteAt : ℕ → List ℕ → ℕ → ℕ
-noteAt n trail i = getD trail (n + 3 * i + 2) 0
+noteAt n trail i = getD trail (2 * n + 3 * i + 2) 0
 
-abbrev pub written : ℕ → List ℕ → ℕ → ℕ → ℕ → ℕ → List ℕ
-written n trail i slot v x = set (set (set trail (n + 3 * i) slot) (n + 3 * i + 1) v) (n + 3 * i + 2) x
+abbrev pub written : ℕ → List ℕ → ℕ → ℕ → ℕ → ℕ → ℕ → List ℕ
+written n trail i slot v g x = set (set (set trail (2 * n + 3 * i) slot) (2 * n + 3 * i + 1) (v + 32 * g)) (2 * n + 3 * i + 2) x
+
+abbrev pub noted : ℕ → List ℕ → ℕ → ℕ → ℕ → List ℕ
+noted n trail slot g x = set (set trail slot x) (n + slot) g
 
 abbrev pub putIn : List ℕ → ℕ → ℕ → List ℕ
 putIn M slot v = set M slot (getD M slot 0 + 2 ^ v)
 
-pub record RowRaised (n row slot x : ℕ) (cells′ cells : List ℕ) : Type 0 where
-  pub raisable : Raisable n slot x (part (row * (n + 1)) (n + 1) cells′)
-  pub is : cells ≡ over (row * (n + 1)) (n + 1) (risen n slot x) cells′
+pub record RowRaised (n row slot g x : ℕ) (cells′ cells : List ℕ) : Type 0 where
+  pub raisable : Raisable n slot g x (part (row * (n + 1)) (n + 1) cells′)
+  pub is : cells ≡ over (row * (n + 1)) (n + 1) (risen n slot g x) cells′
 
 pub record UpperRaised (n k : ℕ) (trail M′ : List ℕ) (slot : ℕ) (cells′ cells : List ℕ) : Type 0 where
-  pub fixed : (w : ℕ) → FixedAt M′ slot w → (w < k) × RowRaised n (k + w) slot (getD trail slot 0) cells′ cells
+  pub fixed : (w : ℕ) → FixedAt M′ slot w → (w < k) × RowRaised n (k + w) slot (getD trail (n + slot) 0) (getD trail slot 0) cells′ cells
   pub free : ((w : ℕ) → FixedAt M′ slot w → ⊥) → cells ≡ cells′
 
-pub record TakenBack (n k : ℕ) (trail : List ℕ) (slot v x : ℕ) (M′ cells′ M cells : List ℕ) : Type 0 where
+pub record TakenBack (n k : ℕ) (trail : List ℕ) (slot v g x : ℕ) (M′ cells′ M cells : List ℕ) : Type 0 where
   pub slot-in : slot < n
   pub inside : slot < length M′
   pub value-in : v < k
@@ -57,10 +64,10 @@ pub record TakenBack (n k : ℕ) (trail : List ℕ) (slot v x : ℕ) (M′ cells
   -- the cells between the two
   pub between : List ℕ
   pub upper : UpperRaised n k trail M′ slot cells′ between
-  pub lower : RowRaised n v slot x between cells
+  pub lower : RowRaised n v slot g x between cells
 
 abbrev pub StrikeBack : ℕ → ℕ → List ℕ → ℕ → List ℕ → List ℕ → List ℕ → List ℕ → Type 0
-StrikeBack n k trail i M′ cells′ M cells = TakenBack n k trail (slotAt n trail i) (valueAt n trail i) (noteAt n trail i) M′ cells′ M cells
+StrikeBack n k trail i M′ cells′ M cells = TakenBack n k trail (slotAt n trail i) (valueAt n trail i) (tagAt n trail i) (noteAt n trail i) M′ cells′ M cells
 
 unfoldable pub Restores : ℕ → ℕ → List ℕ → ℕ → ℕ → List ℕ → List ℕ → List ℕ → List ℕ → Type 0
 Restores n k trail from zero M′ cells′ M cells = (M′ ≡ M) × (cells′ ≡ cells)
@@ -69,8 +76,9 @@ Restores n k trail from (suc j) M′ cells′ M cells =
     × StrikeBack n k trail (from + j) M′ cells′ M₁ cells₁ × Restores n k trail from j M₁ cells₁ M cells
 
 pub record Kept (n : ℕ) (M trail : List ℕ) (h : ℕ) (trail′ : List ℕ) : Type 0 where
-  pub below : (i : ℕ) → n ≤ i → i < n + 3 * h → getD trail′ i 0 ≡ getD trail i 0
+  pub below : (i : ℕ) → 2 * n ≤ i → i < 2 * n + 3 * h → getD trail′ i 0 ≡ getD trail i 0
   pub notes : (s : ℕ) → s < n → ones (getD M s 0) ≤ 1 → getD trail′ s 0 ≡ getD trail s 0
+  pub tags : (s : ℕ) → s < n → ones (getD M s 0) ≤ 1 → getD trail′ (n + s) 0 ≡ getD trail (n + s) 0
 
 pub record Trailed (n k : ℕ) (M cells trail : List ℕ) (top : ℕ) (M′ cells′ trail′ : List ℕ) (h : ℕ) : Type 0 where
   pub size : length trail′ ≡ length trail

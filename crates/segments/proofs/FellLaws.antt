@@ -1,23 +1,24 @@
--- The laws of `Fell` and `Answer` of specs/Fell.antt: one for each return of `fall`, from the laws of a fall and of its note in segments_model, and that the answer
+-- The laws of `Fell` and `Answer` of specs/Fell.antt: one for each return of `fall`, from the laws of a fall and of its reversal in segments_model, and that the answer
 -- says which of the three cases holds of the slack before (`answer-clash`, `answer-reached`, `answer-quiet`).
 -- No contract cites this file. Assumes nothing.
 use mathlib.Core.Path.{_≡_, refl, ap, _∙_}
 use mathlib.Core.Bool.{Bool}
 use mathlib.Core.Logic.{dite}
 use mathlib.Core.List.{List}
-use Prim.Native.Nat.{ℕ, _+_, _-_, _≤_, _<_}
+use Prim.Native.Nat.{ℕ, _+_, _-_, _≤_, _<_, zero-le}
+use native.Mathlib.Nat.{le-refl}
 use native.Mathlib.Decide.{decLt}
 use native.Mathlib.Omega.{arith}
 use lib.ListN.{length, getD, set, length-set}
-use Rattle.segments_model.specs.Fall.{MoreThan, Meets}
+use Rattle.segments_model.specs.Fall.{MoreThan, Meets, Quieted}
 use Rattle.segments_model.specs.Links.{gaps, nextOf}
 use Rattle.segments_model.specs.Search.{Previous}
 use Rattle.segments_model.proofs.FallenLaws.{clashed, quiet-none, quiet-less, quiet-join, reached-spend}
-use Rattle.segments_model.proofs.LinksLaws.{end-gaps}
+use Rattle.segments_model.proofs.LinksLaws.{next-after, end-gaps}
 use Rattle.segments_model.proofs.RaiseLaws.{reversal-none, reversal-less, reversal-join, reversal-spend}
 use Rattle.segments.specs.declared.Hit.{Hit}
-use Rattle.segments.specs.declared.Hit.the-variants.{Quiet, Clash, Reached}
-use Rattle.segments.specs.Fell.{Answer, Fell}
+use Rattle.segments.specs.declared.Hit.the-variants.{Lowered, Still, Joined, Clash, Reached}
+use Rattle.segments.specs.Fell.{Quiets, Answer, Fell}
 
 -- ---- Fell
 
@@ -26,7 +27,7 @@ module _ (n slot : ℕ) (l : List ℕ) where
   fell-clash slot<z = record { size = refl; inside = tt; answer = λ C f held. clashed slot held slot<z; reverses = slot<z; barred = refl }
 
   module _ (slot≤n : slot ≤ n) (n<len : n < length l) (free : getD l 0 0 ≤ slot) {t : ℕ} (found : t ≡ nextOf n slot l) where
-    pub fell-none : n < t → Fell n slot l l (Quiet 0)
+    pub fell-none : n < t → Fell n slot l l Still
     fell-none n<t =
         record {
           size = refl;
@@ -37,19 +38,19 @@ module _ (n slot : ℕ) (l : List ℕ) where
         }
 
     module _ (t≤n : t ≤ n) where
-      pub fell-less : (l′ : List ℕ) (d : ℕ) → d ≡ getD l t 0 → 0 < d → l′ ≡ set l t (d - 1) → Fell n slot l l′ (Quiet 0)
+      pub fell-less : (l′ : List ℕ) (d : ℕ) → d ≡ getD l t 0 → 0 < d → l′ ≡ set l t (d - 1) → Fell n slot l l′ (Lowered t)
       fell-less l′ d d-is more stored =
           let more′ : 0 < getD l t 0 = omega arith in
           record {
             size = ap length stored ∙ simp length-set;
-            inside = tt;
+            inside = (omega (arith, next-after slot≤n l found), t≤n);
             answer = λ C f held. rw (stored, d-is) (quiet-less slot held free slot≤n n<len found t≤n more′);
             reverses = rw (stored, d-is) (reversal-less n slot l slot≤n free found t≤n n<len more′);
             barred = free;
           }
 
       module _ (last : getD l t 0 ≡ 0) {p : ℕ} (prev : Previous slot (gaps l) p) (l′ : List ℕ) where
-        pub fell-join : 0 < p → l′ ≡ set (set l t (getD l p 0)) p (1024 + (t - p - 1)) → Fell n slot l l′ (Quiet p)
+        pub fell-join : 0 < p → l′ ≡ set (set l t (getD l p 0)) p (1024 + (t - p - 1)) → Fell n slot l l′ (Joined p)
         fell-join 0<p stored =
             record {
               size = ap length stored ∙ simp length-set;
@@ -74,16 +75,23 @@ module _ (n slot : ℕ) (l : List ℕ) where
 -- ---- Answer
 
 module _ (n slot : ℕ) (C : ℕ → Bool) (f : ℕ → ℕ) (l l′ : List ℕ) where
+  quiet-meets : Quieted n C f slot l′ → {d u : ℕ} → d ≤ 1 → Meets n C f slot d u → ⊥
+  quiet-meets quiet {d} {u} few meets = omega (arith, meets .slack, quiet .more u (meets .after) (meets .inside) (meets .corner))
+
   -- a corner after the slot lacks slack: Clash
   pub answer-clash : (r : Hit) → Answer n C f slot l l′ r → (u : ℕ) → Meets n C f slot 0 u → r ≡ Clash
-  answer-clash (Quiet x) quiet u meets = absurd (omega (arith, meets .slack, quiet .more u (meets .after) (meets .inside) (meets .corner)))
+  answer-clash (Lowered x) quiet u meets = absurd (quiet-meets quiet zero-le meets)
+  answer-clash Still quiet u meets = absurd (quiet-meets quiet zero-le meets)
+  answer-clash (Joined x) quiet u meets = absurd (quiet-meets quiet zero-le meets)
   answer-clash Clash clash u meets = refl
   answer-clash (Reached t x) reached u meets = absurd (omega (arith, meets .slack, reached .more u (meets .after) (meets .inside) (meets .corner)))
 
   -- none does, and one has a slack of 1: Reached, at the last such
   pub answer-reached : (r : Hit) → Answer n C f slot l l′ r → (u : ℕ) → Meets n C f slot 1 u → MoreThan n C f slot 0 → MoreThan n C f u 1
       → (x : ℕ) × (r ≡ Reached u x)
-  answer-reached (Quiet x) quiet u meets more last = absurd (omega (arith, meets .slack, quiet .more u (meets .after) (meets .inside) (meets .corner)))
+  answer-reached (Lowered x) quiet u meets more last = absurd (quiet-meets quiet (le-refl 1) meets)
+  answer-reached Still quiet u meets more last = absurd (quiet-meets quiet (le-refl 1) meets)
+  answer-reached (Joined x) quiet u meets more last = absurd (quiet-meets quiet (le-refl 1) meets)
   answer-reached Clash clash u meets more last =
       let at = clash .meets in
       absurd (omega (arith, at .slack, more (getD l 0 0) (at .after) (at .inside) (at .corner)))
@@ -94,12 +102,14 @@ module _ (n slot : ℕ) (C : ℕ → Bool) (f : ℕ → ℕ) (l l′ : List ℕ)
       dite (decLt u t) (λ u<t. absurd (omega (arith, at .slack, last t u<t (at .inside) (at .corner))))
       (λ t≤u. let e : t ≡ u = omega arith in (x, ap (λ (w : ℕ). Reached w x) e)))
 
-  -- all have more: Quiet
-  pub answer-quiet : (r : Hit) → Answer n C f slot l l′ r → MoreThan n C f slot 1 → (x : ℕ) × (r ≡ Quiet x)
-  answer-quiet (Quiet x) quiet more = (x, refl)
+  -- all have more: a quiet one
+  pub answer-quiet : (r : Hit) → Answer n C f slot l l′ r → MoreThan n C f slot 1 → Quiets r
+  answer-quiet (Lowered x) quiet more = tt
+  answer-quiet Still quiet more = tt
+  answer-quiet (Joined x) quiet more = tt
   answer-quiet Clash clash more =
       let at = clash .meets in
-      absurd (omega (arith, at .slack, more (getD l 0 0) (at .after) (at .inside) (at .corner)))
+      omega (arith, at .slack, more (getD l 0 0) (at .after) (at .inside) (at .corner))
   answer-quiet (Reached t x) reached more =
       let at = reached .meets in
-      absurd (omega (arith, at .slack, more t (at .after) (at .inside) (at .corner)))
+      omega (arith, at .slack, more t (at .after) (at .inside) (at .corner))

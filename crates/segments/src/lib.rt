@@ -8,14 +8,16 @@ ghost use lib.ListN.{length, getD, set};
 ghost use Rattle.segments_model.specs.Cells.{standingIn};
 ghost use Rattle.segments_model.specs.Links.{gaps, nextOf};
 ghost use Rattle.segments_model.specs.Part.{part, over, Lent};
-ghost use Rattle.segments_model.specs.Raise.{risen, Raisable};
+ghost use Rattle.segments_model.specs.Raise.{lifted, parted, risen, Raisable};
 ghost use Rattle.segments_model.specs.Search.{Previous};
 ghost use Rattle.segments.specs.Fell.{Fell};
 
-// What a fall of the slack meets: no corner loses its last slack; a corner has none to lose; the last corner that loses its last slack. The last
-// number is the note by which `raise` takes the fall back.
+// What a fall of the slack meets. No corner loses its last slack: the gap of the right end t fell by one, no right end is after the slot, or the
+// right end p was joined. A corner has none to lose. Or t is the last corner that loses its last slack, and the spent corner was z.
 pub enum Hit {
-    Quiet(usize),
+    Lowered(usize),
+    Still,
+    Joined(usize),
     Clash,
     Reached(usize, usize),
 }
@@ -30,12 +32,12 @@ pub fn fall(cells: &mut [u16], n: usize, slot: usize) -> Hit
     }
     let t = next_standing(cells, n, slot);
     if n < t {
-        return Hit::Quiet(0);
+        return Hit::Still;
     }
     let d = wide(cells[t]);
     if 0 < d {
         cells[t] = (d - 1) as u16;
-        return Hit::Quiet(0);
+        return Hit::Lowered(t);
     }
     let p = previous_standing(cells, slot);
     if p == 0 {
@@ -44,7 +46,7 @@ pub fn fall(cells: &mut [u16], n: usize, slot: usize) -> Hit
         return Hit::Reached(t, z);
     }
     join(cells, p, t);
-    Hit::Quiet(p)
+    Hit::Joined(p)
 }
 
 // The same for the n + 1 cells from `base` on of a longer list, whose other cells stay.
@@ -56,34 +58,33 @@ pub fn fall_in(cells: &mut [u16], base: usize, n: usize, slot: usize) -> Hit
     fall(&mut cells[base..end], n, slot)
 }
 
-// Takes a fall after the slot back, by the note that it left: the cells are as they were before it.
-pub fn raise(cells: &mut [u16], n: usize, slot: usize, note: usize)
-    requires { ⌜ (slot ≤ n) × (n < length (now cells)) × (n < 1024) × Raisable n slot note (now cells) ⌝ }
-    ensures { λ _. ⌜ now (cells .exit) ≡ risen n slot note (now (cells .entry)) ⌝ }
+// Takes a fall after the slot back, by the tag and the note that it left: the cells are as they were before it.
+pub fn raise(cells: &mut [u16], n: usize, slot: usize, tag: usize, note: usize)
+    requires { ⌜ (slot ≤ n) × (n < length (now cells)) × (n < 1024) × Raisable n slot tag note (now cells) ⌝ }
+    ensures { λ _. ⌜ now (cells .exit) ≡ risen n slot tag note (now (cells .entry)) ⌝ }
 {
+    if tag == 0 {
+        lift(cells, note + 1);
+        return;
+    }
+    if tag == 1 {
+        return;
+    }
+    if tag == 2 {
+        unjoin(cells, n, slot, note);
+        return;
+    }
     let z = wide(cells[0]);
-    if slot < z {
-        unspend(cells, z, note);
-        return;
-    }
-    let t = next_standing(cells, n, slot);
-    if n < t {
-        return;
-    }
-    if note == 0 {
-        cells[t] = cells[t] + 1;
-        return;
-    }
-    split(cells, note, t);
+    unspend(cells, z, note);
 }
 
 // The same for the n + 1 cells from `base` on of a longer list, whose other cells stay.
-pub fn raise_in(cells: &mut [u16], base: usize, n: usize, slot: usize, note: usize)
-    requires { ⌜ (slot ≤ n) × (base + n < length (now cells)) × (n < 1024) × Raisable n slot note (part base (n + 1) (now cells)) ⌝ }
-    ensures { λ _. ⌜ now (cells .exit) ≡ over base (n + 1) (risen n slot note) (now (cells .entry)) ⌝ }
+pub fn raise_in(cells: &mut [u16], base: usize, n: usize, slot: usize, tag: usize, note: usize)
+    requires { ⌜ (slot ≤ n) × (base + n < length (now cells)) × (n < 1024) × Raisable n slot tag note (part base (n + 1) (now cells)) ⌝ }
+    ensures { λ _. ⌜ now (cells .exit) ≡ over base (n + 1) (risen n slot tag note) (now (cells .entry)) ⌝ }
 {
     let end = base + n + 1;
-    raise(&mut cells[base..end], n, slot, note);
+    raise(&mut cells[base..end], n, slot, tag, note);
 }
 
 // How many segments the cells hold.
@@ -158,6 +159,26 @@ fn join(cells: &mut [u16], p: usize, t: usize)
 {
     cells[t] = cells[p];
     cells[p] = (1024 + (t - p - 1)) as u16;
+}
+
+// The gap of the right end t is one more.
+fn lift(cells: &mut [u16], t: usize)
+    requires { ⌜ (t < length (now cells)) × (getD (now cells) t 0 < 1024) ⌝ }
+    ensures { λ _. ⌜ now (cells .exit) ≡ lifted t (now (cells .entry)) ⌝ }
+{
+    cells[t] = cells[t] + 1;
+}
+
+// The first right end after the slot is parted again from p, which was joined to it.
+fn unjoin(cells: &mut [u16], n: usize, slot: usize, p: usize)
+    requires { ⌜ (slot ≤ n) × (n < length (now cells)) × (n < 1024) × (p ≤ slot) ⌝ }
+    ensures { λ _. ⌜ now (cells .exit) ≡ parted n (nextOf n slot (now (cells .entry))) p (now (cells .entry)) ⌝ }
+{
+    let t = next_standing(cells, n, slot);
+    if n < t {
+        return;
+    }
+    split(cells, p, t);
 }
 
 // The segment that was spent up to t stands again, and the spent corner is z.

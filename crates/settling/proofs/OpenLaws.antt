@@ -81,7 +81,7 @@ module _ (b : List ℕ) {L U : List ℕ} (book : ClosedBook b L U) where
 -- ---- StateRoom
 
 -- arrays for 256 slots and 32 values
-pub state-room : {b M : List ℕ} (cells trail L U : List ℕ) → Ready b M → 16448 ≤ length cells → 24832 ≤ length trail → 257 ≤ length L → 257 ≤ length U
+pub state-room : {b M : List ℕ} (cells trail L U : List ℕ) → Ready b M → 16448 ≤ length cells → 25088 ≤ length trail → 257 ≤ length L → 257 ≤ length U
     → StateRoom b M cells trail L U
 state-room {b} cells trail L U ready long-cells long-trail long-L long-U =
     let fit = ready .book in

@@ -14,7 +14,7 @@ use Rattle.settling_model.specs.Settled.{LacksAt}
 use Rattle.segments_model.specs.Part.{over}
 use Rattle.segments_model.specs.Raise.{risen}
 use Rattle.filter_model.specs.State.{World, Moved}
-use Rattle.filter_model.specs.Trail.{slotAt, valueAt, noteAt, putIn, RowRaised, UpperRaised, TakenBack, Restores}
+use Rattle.filter_model.specs.Trail.{slotAt, valueAt, tagAt, noteAt, putIn, RowRaised, UpperRaised, TakenBack, Restores}
 use Rattle.filter_model.proofs.RowLaws.{row-inside}
 use Rattle.filter_model.proofs.StateLaws.{world-moved}
 use Rattle.filter_model.proofs.StoreLaws.{many-free}
@@ -22,8 +22,8 @@ use Rattle.filter_model.proofs.TrailLaws.{Next, restores-next, restores-done}
 use Rattle.undoing.specs.Undone.{Sizes, RowUndoing, UpperUndoing, UpperUndone, StrikeUndoing, StrikeUndone, Undoable, Undone}
 
 -- ---- one row
-row-undoing : {masks cells cells₁ cells₂ : List ℕ} {n k slot x : ℕ} (row : ℕ) → Sizes masks cells n k → slot < n → row < k + k
-    → length cells₁ ≡ length cells → RowRaised n row slot x cells₁ cells₂ → RowUndoing cells₁ row n slot x
+row-undoing : {masks cells cells₁ cells₂ : List ℕ} {n k slot g x : ℕ} (row : ℕ) → Sizes masks cells n k → slot < n → row < k + k
+    → length cells₁ ≡ length cells → RowRaised n row slot g x cells₁ cells₂ → RowUndoing cells₁ row n slot g x
 row-undoing {n = n} {k = k} row sizes slot<n row-in size raised =
     record {
       slot-in = omega arith;
@@ -42,22 +42,23 @@ module _ {masks cells trail : List ℕ} {n k slot m : ℕ} (m-is : m ≡ getD ma
     pub upper-value : UpperUndoing masks cells trail n k slot → w < k
     upper-value undoing = undoing .raised .fixed w (sym m-is ∙ single) .0
 
-    pub upper-row : (x : ℕ) → x ≡ getD trail slot 0 → UpperUndoing masks cells trail n k slot → RowUndoing cells (k + w) n slot x
-    upper-row x x-is undoing =
+    pub upper-row : (g x : ℕ) → g ≡ getD trail (n + slot) 0 → x ≡ getD trail slot 0 → UpperUndoing masks cells trail n k slot
+        → RowUndoing cells (k + w) n slot g x
+    upper-row g x g-is x-is undoing =
         let raised = undoing .raised .fixed w (sym m-is ∙ single) in
-        rw x-is (row-undoing (k + w) (undoing .sizes) (undoing .slot-in) (omega (arith, raised .0)) refl (raised .1))
+        rw (g-is, x-is) (row-undoing (k + w) (undoing .sizes) (undoing .slot-in) (omega (arith, raised .0)) refl (raised .1))
 
-    pub upper-undone : {x : ℕ} {cells′ : List ℕ} → x ≡ getD trail slot 0 → cells′ ≡ over ((k + w) * (n + 1)) (n + 1) (risen n slot x) cells
-        → UpperUndone masks cells trail n k slot cells′
-    upper-undone x-is cells-are =
+    pub upper-undone : {g x : ℕ} {cells′ : List ℕ} → g ≡ getD trail (n + slot) 0 → x ≡ getD trail slot 0
+        → cells′ ≡ over ((k + w) * (n + 1)) (n + 1) (risen n slot g x) cells → UpperUndone masks cells trail n k slot cells′
+    upper-undone g-is x-is cells-are =
         record {
-          restored = λ before raised. cells-are ∙ rw x-is (sym (raised .fixed w (sym m-is ∙ single) .1 .is));
+          restored = λ before raised. cells-are ∙ rw (g-is, x-is) (sym (raised .fixed w (sym m-is ∙ single) .1 .is));
         }
 
--- ---- one strike; slot, v and x are its three bytes
+-- ---- one strike; slot, v, the tag g and the note x are what its three bytes tell
 module _ {masks cells trail : List ℕ} {n k i : ℕ} (undoing : StrikeUndoing masks cells trail n k i) {slot v : ℕ}
     (slot-is : slot ≡ slotAt n trail i) (v-is : v ≡ valueAt n trail i) where
-  taken : TakenBack n k trail slot v (noteAt n trail i) masks cells (undoing .old) (undoing .old-cells)
+  taken : TakenBack n k trail slot v (tagAt n trail i) (noteAt n trail i) masks cells (undoing .old) (undoing .old-cells)
   taken = rw (slot-is, v-is) (undoing .taken)
 
   pub strike-upper : UpperUndoing masks cells trail n k slot
@@ -65,26 +66,27 @@ module _ {masks cells trail : List ℕ} {n k i : ℕ} (undoing : StrikeUndoing m
       record {
         sizes = undoing .sizes;
         slot-in = taken .slot-in;
-        note-in = omega (arith, undoing .strike-in);
+        notes-in = omega (arith, undoing .strike-in);
         before = taken .between;
         raised = taken .upper;
       }
 
   module _ {cells₁ : List ℕ} (size : length cells₁ ≡ length cells) (upper : UpperUndone masks cells trail n k slot cells₁) where
-    pub strike-row : {x : ℕ} → x ≡ noteAt n trail i → RowUndoing cells₁ v n slot x
-    strike-row x-is =
-        rw (x-is, upper .restored (taken .between) (taken .upper))
+    pub strike-row : {g x : ℕ} → g ≡ tagAt n trail i → x ≡ noteAt n trail i → RowUndoing cells₁ v n slot g x
+    strike-row g-is x-is =
+        rw (g-is, x-is, upper .restored (taken .between) (taken .upper))
         (row-undoing v (undoing .sizes) (taken .slot-in) (omega (arith, taken .value-in)) (rw (upper .restored (taken .between) (taken .upper)) at size)
         (taken .lower))
 
-    pub strike-undone : {x : ℕ} {cells₂ masks′ : List ℕ} → x ≡ noteAt n trail i → cells₂ ≡ over (v * (n + 1)) (n + 1) (risen n slot x) cells₁
-        → masks′ ≡ putIn masks slot v → StrikeUndone masks cells trail n k i masks′ cells₂
-    strike-undone x-is cells-are masks-are =
+    pub strike-undone : {g x : ℕ} {cells₂ masks′ : List ℕ} → g ≡ tagAt n trail i → x ≡ noteAt n trail i
+        → cells₂ ≡ over (v * (n + 1)) (n + 1) (risen n slot g x) cells₁ → masks′ ≡ putIn masks slot v
+        → StrikeUndone masks cells trail n k i masks′ cells₂
+    strike-undone g-is x-is cells-are masks-are =
         record {
           restored = λ old old-cells back.
-              let same : TakenBack n k trail slot v (noteAt n trail i) masks cells old old-cells = rw (slot-is, v-is) back in (
+              let same : TakenBack n k trail slot v (tagAt n trail i) (noteAt n trail i) masks cells old old-cells = rw (slot-is, v-is) back in (
                 masks-are ∙ sym (same .masks-are),
-                cells-are ∙ rw (x-is, upper .restored (same .between) (same .upper)) (sym (same .lower .is)),
+                cells-are ∙ rw (g-is, x-is, upper .restored (same .between) (same .upper)) (sym (same .lower .is)),
               );
         }
 
@@ -109,7 +111,7 @@ putting-start masks cells trail n k from to from≤to =
 module _ {masks₀ cells₀ trail masks cells : List ℕ} {n k from to i : ℕ} (putting : Putting masks₀ cells₀ trail n k from to masks cells i) where
   module _ (from<i : from < i) where
     putting-next : (old c : List ℕ) → Restores n k trail from (to - from) masks₀ cells₀ old c
-        → Next n k trail from (i - 1 - from) (slotAt n trail (i - 1)) (valueAt n trail (i - 1)) (noteAt n trail (i - 1)) masks cells old c
+        → Next n k trail from (i - 1 - from) (slotAt n trail (i - 1)) (valueAt n trail (i - 1)) (tagAt n trail (i - 1)) (noteAt n trail (i - 1)) masks cells old c
     putting-next old c restores =
         let steps : i - from ≡ suc (i - 1 - from) = omega arith in
         let place : from + (i - 1 - from) ≡ i - 1 = omega arith in

@@ -22,16 +22,16 @@ pub record Sizes (masks cells : List ℕ) (n k : ℕ) : Type 0 where
   pub slots-fit : n ≤ 256
   pub values-fit : k ≤ 32
 
-pub record RowUndoing (cells : List ℕ) (row n slot note : ℕ) : Type 0 where
+pub record RowUndoing (cells : List ℕ) (row n slot tag note : ℕ) : Type 0 where
   pub slot-in : slot ≤ n
   pub row-in : row * (n + 1) + n < length cells
   pub slots-fit : n < 1024
-  pub raisable : Raisable n slot note (part (row * (n + 1)) (n + 1) cells)
+  pub raisable : Raisable n slot tag note (part (row * (n + 1)) (n + 1) cells)
 
 pub record UpperUndoing (masks cells trail : List ℕ) (n k slot : ℕ) : Type 0 where
   pub sizes : Sizes masks cells n k
   pub slot-in : slot < n
-  pub note-in : n ≤ length trail
+  pub notes-in : 2 * n ≤ length trail
   pub before : List ℕ
   pub raised : UpperRaised n k trail masks slot cells before
 
@@ -40,7 +40,7 @@ pub record UpperUndone (masks cells trail : List ℕ) (n k slot : ℕ) (cells′
 
 pub record StrikeUndoing (masks cells trail : List ℕ) (n k i : ℕ) : Type 0 where
   pub sizes : Sizes masks cells n k
-  pub strike-in : n + 3 * i + 2 < length trail
+  pub strike-in : 2 * n + 3 * i + 2 < length trail
   pub old : List ℕ
   pub old-cells : List ℕ
   pub taken : StrikeBack n k trail i masks cells old old-cells
@@ -51,7 +51,7 @@ pub record StrikeUndone (masks cells trail : List ℕ) (n k i : ℕ) (masks′ c
 pub record Undoable (masks cells trail : List ℕ) (n k from to : ℕ) : Type 0 where
   pub sizes : Sizes masks cells n k
   pub order : from ≤ to
-  pub upto : n + 3 * to ≤ length trail
+  pub upto : 2 * n + 3 * to ≤ length trail
   pub old : List ℕ
   pub old-cells : List ℕ
   pub restores : Restores n k trail from (to - from) masks cells old old-cells

@@ -1,5 +1,5 @@
 // Undo: takes calls of the filter back. Each strike that the trail has from a height on is taken back, the latest first: its falls by their
-// notes, and its value into the masks. Nothing is refused here. The contracts cite `specs/Undone.antt` and filter_model's `specs/Trail.antt`.
+// tags and notes, and its value into the masks. Nothing is refused here. The contracts cite `specs/Undone.antt` and filter_model's `specs/Trail.antt`.
 ghost use mathlib.Core.Path.{_≡_};
 ghost use Prim.Native.Nat.{_+_, _*_, _<_};
 ghost use lib.ListN.{length};
@@ -34,11 +34,12 @@ fn take_back(masks: &mut [u32], cells: &mut [u16], trail: &[u8], n: usize, k: u3
     requires { ⌜ StrikeUndoing (now masks) (now cells) (now trail) n k i ⌝ }
     ensures { λ _. ⌜ StrikeUndone (now (masks .entry)) (now (cells .entry)) (now (trail .entry)) n k i (now (masks .exit)) (now (cells .exit)) ⌝ }
 {
-    let p = n + 3 * i;
+    let p = 2 * n + 3 * i;
     let slot = wide(trail[p]);
-    let v = trail[p + 1] as u32;
+    let both = wide(trail[p + 1]);
+    let v = (both % 32) as u32;
     raise_fixed(masks, cells, trail, n, k, slot);
-    raise_row(cells, v, n, slot, wide(trail[p + 2]));
+    raise_row(cells, v, n, slot, both / 32, wide(trail[p + 2]));
     put_in(masks, slot, v);
 }
 
@@ -52,15 +53,22 @@ fn raise_fixed(masks: &[u32], cells: &mut [u16], trail: &[u8], n: usize, k: u32,
         return;
     }
     let w = domains::single_value(m);
-    raise_row(cells, k + w, n, slot, wide(trail[slot]));
+    raise_row(
+        cells,
+        k + w,
+        n,
+        slot,
+        wide(trail[n + slot]),
+        wide(trail[slot]),
+    );
 }
 
-// Takes the fall of a row after the slot back, by its note.
-fn raise_row(cells: &mut [u16], row: u32, n: usize, slot: usize, note: usize)
-    requires { ⌜ RowUndoing (now cells) row n slot note ⌝ }
-    ensures { λ _. ⌜ now (cells .exit) ≡ over (row * (n + 1)) (n + 1) (risen n slot note) (now (cells .entry)) ⌝ }
+// Takes the fall of a row after the slot back, by its tag and its note.
+fn raise_row(cells: &mut [u16], row: u32, n: usize, slot: usize, tag: usize, note: usize)
+    requires { ⌜ RowUndoing (now cells) row n slot tag note ⌝ }
+    ensures { λ _. ⌜ now (cells .exit) ≡ over (row * (n + 1)) (n + 1) (risen n slot tag note) (now (cells .entry)) ⌝ }
 {
-    segments::raise_in(cells, row as usize * (n + 1), n, slot, note);
+    segments::raise_in(cells, row as usize * (n + 1), n, slot, tag, note);
 }
 
 // Puts value v into the slot, where it is not.

@@ -1,7 +1,8 @@
--- `filter::fall_row` meets its contract: the answer of `segments::fall_in`, read as a clash, a reach and a note (`dropped-quiet`, `dropped-clash`,
+-- `filter::fall_row` meets its contract: the answer of `segments::fall_in`, read as a clash, a reach, a tag and a note (`dropped-lowered` to
 -- `dropped-reached`). Assumes nothing.
+use native.Mathlib.Omega.{arith}
+use Rattle.filter.proofs.FallLaws.{lowered-after, dropped-lowered, dropped-still, dropped-joined, dropped-clash, dropped-reached}
 use borrow.Author.Needs.{needs}
-use Rattle.filter.proofs.FallLaws.{dropped-quiet, dropped-clash, dropped-reached}
 use Rattle.filter.proofs.fall_row.Statement.{statement}
 use Rattle.filter.proofs.fall_row.Tie as tie
 
@@ -17,35 +18,76 @@ fall-in-requires c κs = search needs
 enum-known-hit : tie.Need-enum-known-hit
 enum-known-hit c = search needs
 
+sub-fell-by : tie.Need-sub-fell-by
+sub-fell-by c =
+    omega (arith, lowered-after (c .before .before .before .before .before .before .before .before .args .row) (c .before .before .before .before .before .fall-in .ensures) (c .before .hit .given .1))
+
+fell-by-requires : tie.Need-fell-by-requires
+fell-by-requires c κs = search needs
+
 same-length : tie.Need-same-length
 same-length c = search needs
 
 returns : tie.Need-returns
 returns c =
-    let fall-in = c .before .before .before .before .before .fall-in in
-    dropped-quiet (c .before .before .before .before .before .before .before .before .args .row) (fall-in .ensures) (c .before .hit .given .1)
+    let fall-in = c .before .before .before .before .before .before .fall-in in
+    dropped-lowered (c .before .before .before .before .before .before .before .before .before .args .row) (fall-in .ensures) (c .before .before .hit .given .1) (c .fell-by .ensures)
 
 enum-told : tie.Need-enum-told
 enum-told c = search needs
+
+fell-by-requires-2 : tie.Need-fell-by-requires-2
+fell-by-requires-2 c κs = search needs
 
 same-length-2 : tie.Need-same-length-2
 same-length-2 c = search needs
 
 returns-2 : tie.Need-returns-2
 returns-2 c =
-    let fall-in = c .before .before .before .before .fall-in in
-    dropped-clash (c .before .before .before .before .before .before .before .args .row) (fall-in .ensures) (c .enum-told .given .1)
+    let fall-in = c .before .before .before .before .before .fall-in in
+    dropped-still (c .before .before .before .before .before .before .before .before .args .row) (fall-in .ensures) (c .before .enum-told .given .1) (c .fell-by2 .ensures)
 
 enum-known-hit-2 : tie.Need-enum-known-hit-2
 enum-known-hit-2 c = search needs
+
+fell-by-requires-3 : tie.Need-fell-by-requires-3
+fell-by-requires-3 c κs = search needs
 
 same-length-3 : tie.Need-same-length-3
 same-length-3 c = search needs
 
 returns-3 : tie.Need-returns-3
 returns-3 c =
+    let fall-in = c .before .before .before .before .before .before .fall-in in
+    dropped-joined (c .before .before .before .before .before .before .before .before .before .args .row) (fall-in .ensures) (c .before .before .hit2 .given .1) (c .fell-by3 .ensures)
+
+enum-told-2 : tie.Need-enum-told-2
+enum-told-2 c = search needs
+
+fell-by-requires-4 : tie.Need-fell-by-requires-4
+fell-by-requires-4 c κs = search needs
+
+same-length-4 : tie.Need-same-length-4
+same-length-4 c = search needs
+
+returns-4 : tie.Need-returns-4
+returns-4 c =
     let fall-in = c .before .before .before .before .before .fall-in in
-    dropped-reached (c .before .before .before .before .before .before .before .before .args .row) (fall-in .ensures) (c .before .hit2 .given .1)
+    dropped-clash (c .before .before .before .before .before .before .before .before .args .row) (fall-in .ensures) (c .before .enum-told2 .given .1) (c .fell-by4 .ensures)
+
+enum-known-hit-3 : tie.Need-enum-known-hit-3
+enum-known-hit-3 c = search needs
+
+fell-by-requires-5 : tie.Need-fell-by-requires-5
+fell-by-requires-5 c κs = search needs
+
+same-length-5 : tie.Need-same-length-5
+same-length-5 c = search needs
+
+returns-5 : tie.Need-returns-5
+returns-5 c =
+    let fall-in = c .before .before .before .before .before .before .fall-in in
+    dropped-reached (c .before .before .before .before .before .before .before .before .before .args .row) (fall-in .ensures) (c .before .before .hit3 .given .1) (c .fell-by5 .ensures)
 
 pub fall-row-spec : {M : Type 1} → statement M
 fall-row-spec =
@@ -55,11 +97,23 @@ fall-row-spec =
     mul-fall-in
     fall-in-requires
     enum-known-hit
+    sub-fell-by
+    fell-by-requires
     same-length
     returns
     enum-told
+    fell-by-requires-2
     same-length-2
     returns-2
     enum-known-hit-2
+    fell-by-requires-3
     same-length-3
-    returns-3)
+    returns-3
+    enum-told-2
+    fell-by-requires-4
+    same-length-4
+    returns-4
+    enum-known-hit-3
+    fell-by-requires-5
+    same-length-5
+    returns-5)

@@ -9,8 +9,17 @@ use Rattle.filter.proofs.push.Tie as tie
 mul-p : tie.Need-mul-p
 mul-p c = search needs
 
+mul-p-2 : tie.Need-mul-p-2
+mul-p-2 c = search needs
+
 add-p : tie.Need-add-p
 add-p c = search needs
+
+mul-both : tie.Need-mul-both
+mul-both c = search needs
+
+add-both : tie.Need-add-both
+add-both c = search needs
 
 cast-trail : tie.Need-cast-trail
 cast-trail c = search needs
@@ -26,7 +35,7 @@ add-trail c = search needs
 
 slice-write-trail-2 : tie.Need-slice-write-trail-2
 slice-write-trail-2 c =
-    omega (arith, length-set (c .args .trail .now) (c .args .n + 3 * c .args .top) (c .args .slot))
+    omega (arith, length-set (c .args .trail .now) (2 * c .args .n + 3 * c .args .top) (c .args .slot))
 
 cast-trail-3 : tie.Need-cast-trail-3
 cast-trail-3 c = search needs
@@ -48,7 +57,10 @@ push-spec =
     tie.close
     (tie.spec
     mul-p
+    mul-p-2
     add-p
+    mul-both
+    add-both
     cast-trail
     slice-write-trail
     cast-trail-2

@@ -1,5 +1,5 @@
 -- `filter::strike_one` meets its contract: each of its three tests is a law of ContradictionLaws, and each of its two ways to a strike a law of
--- RemovalLaws; the notes fit a byte (`low-note`, `high-note`). Assumes nothing.
+-- RemovalLaws; the notes fit a byte, and the tags (`low-note`, `low-tag`, `high-note`, `high-tag`). Assumes nothing.
 use mathlib.Core.Path.{refl, sym, _∙_}
 use Prim.Native.Nat.{_+_}
 use native.Mathlib.Omega.{arith}
@@ -7,7 +7,7 @@ use borrow.Author.Tests.{eqb-true, eqb-false, not-true, not-false}
 use borrow.Author.Needs.{needs}
 use Rattle.filter_model.proofs.StateLaws.{world-row, ready-room, ready-byte, ready-value}
 use Rattle.filter_model.proofs.ContradictionLaws.{left-in, contradicted-empty, contradicted-low, contradicted-high}
-use Rattle.filter_model.proofs.RemovalLaws.{low-note, high-note, removed-plain, removed-single}
+use Rattle.filter_model.proofs.RemovalLaws.{low-note, low-tag, high-note, high-tag, removed-plain, removed-single}
 use Rattle.filter.proofs.strike_one.Statement.{statement}
 use Rattle.filter.proofs.strike_one.Tie as tie
 
@@ -66,8 +66,9 @@ push-requires c κs =
     let pre = c .before .before .before .before .before .before .before .before .before .before .before .before .before .before .before .before .before
     .before .before .before .pre in
     let ready = pre .0 in
-    let low = low-note ready (pre .1) _ (without-value .ensures) (if1 .left) (spent .ensures) (if2 .left) (fall-row .ensures .0) in
-    (ready-room ready (pre .1), ready-byte ready, ready-value ready, omega (arith, low, ready-byte ready))
+    let note = low-note ready (pre .1) _ (without-value .ensures) (if1 .left) (spent .ensures) (if2 .left) (fall-row .ensures .0) in
+    let tag = low-tag ready (pre .1) _ (without-value .ensures) (if1 .left) (spent .ensures) (if2 .left) (fall-row .ensures .0) in
+    (ready-room ready (pre .1), ready-byte ready, ready-value ready, tag, note)
 
 same-length-4 : tie.Need-same-length-4
 same-length-4 c = search needs
@@ -155,8 +156,9 @@ push-requires-2 c κs =
     let pre = c .before .before .before .before .before .before .before .before .before .before .before .before .before .before .before .before .before
     .before .before .before .before .before .before .before .pre in
     let ready = pre .0 in
-    let low = low-note ready (pre .1) _ (without-value .ensures) (if1 .left) (spent .ensures) (if2 .left) (fall-row2 .ensures .0) in
-    (ready-room ready (pre .1), ready-byte ready, ready-value ready, omega (arith, low, ready-byte ready))
+    let note = low-note ready (pre .1) _ (without-value .ensures) (if1 .left) (spent .ensures) (if2 .left) (fall-row2 .ensures .0) in
+    let tag = low-tag ready (pre .1) _ (without-value .ensures) (if1 .left) (spent .ensures) (if2 .left) (fall-row2 .ensures .0) in
+    (ready-room ready (pre .1), ready-byte ready, ready-value ready, tag, note)
 
 add-fall-row : tie.Need-add-fall-row
 add-fall-row c =
@@ -206,9 +208,11 @@ note-fixed-requires c κs =
     let pre = c .before .before .before .before .before .before .before .before .before .before .before .before .before .before .before .before .before
     .before .before .before .before .before .before .before .before .before .before .before .before .before .before .before .pre in
     let ready = pre .0 in
-    let high = high-note ready (pre .1) _ (without-value .ensures) (if1 .left) (spent .ensures) (if2 .left) (fall-row2 .ensures .0)
+    let note = high-note ready (pre .1) _ (without-value .ensures) (if1 .left) (spent .ensures) (if2 .left) (fall-row2 .ensures .0)
     (store2 .ensures) (push2 .ensures) _ (single-value .ensures .1) (spent2 .ensures) (if4 .left) (fall-row3 .ensures .0) in
-    (omega (arith, ready-room ready (pre .1), ready .slot-in, push2 .kept .0), omega (arith, high, ready-byte ready))
+    let tag = high-tag ready (pre .1) _ (without-value .ensures) (if1 .left) (spent .ensures) (if2 .left) (fall-row2 .ensures .0)
+    (store2 .ensures) (push2 .ensures) _ (single-value .ensures .1) (spent2 .ensures) (if4 .left) (fall-row3 .ensures .0) in
+    (ready .slot-in, omega (arith, ready-room ready (pre .1), push2 .kept .0), tag, note)
 
 same-length-9 : tie.Need-same-length-9
 same-length-9 c = search needs

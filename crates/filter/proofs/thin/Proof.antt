@@ -3,7 +3,7 @@ use mathlib.Core.Path.{refl}
 use native.Mathlib.Omega.{arith}
 use borrow.Author.Needs.{needs}
 use Rattle.filter_model.proofs.StateLaws.{world-row, ready-slot, ready-room, ready-byte, ready-value}
-use Rattle.filter.proofs.ThinLaws.{thin-barred, thin-made, thin-note}
+use Rattle.filter.proofs.ThinLaws.{thin-barred, thin-made, thin-note, thin-tag}
 use Rattle.filter.proofs.thin.Statement.{statement}
 use Rattle.filter.proofs.thin.Tie as tie
 
@@ -33,7 +33,8 @@ push-requires c κs =
     let ready = pre .0 in
     let fall-row = c .before .before .before .before .before .before .before .before .fall-row in
     let note = thin-note ready (pre .1) _ (fall-row .ensures .1) (pre .2) (c .before .before .before .before .before .if1 .left) (fall-row .ensures .0) in
-    (ready-room ready (pre .1), ready-byte ready, ready-value ready, omega (arith, note, ready-byte ready))
+    let tag = thin-tag ready (pre .1) _ (fall-row .ensures .1) (pre .2) (c .before .before .before .before .before .if1 .left) (fall-row .ensures .0) in
+    (ready-room ready (pre .1), ready-byte ready, ready-value ready, tag, note)
 
 same-length-2 : tie.Need-same-length-2
 same-length-2 c = search needs

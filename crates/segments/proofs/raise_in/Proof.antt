@@ -29,7 +29,7 @@ raise-requires : tie.Need-raise-requires
 raise-requires c κs =
     let pre = c .before .before .pre in
     let args = c .before .before .args in
-    (pre .0, search needs, pre .2, part-mid (args .base) (args .n) (λ l. Raisable (args .n) (args .slot) (args .note) l) (args .cells .now) (pre .3))
+    (pre .0, search needs, pre .2, part-mid (args .base) (args .n) (λ l. Raisable (args .n) (args .slot) (args .tag) (args .note) l) (args .cells .now) (pre .3))
 
 same-length : tie.Need-same-length
 same-length c = search needs
@@ -37,7 +37,7 @@ same-length c = search needs
 returns : tie.Need-returns
 returns c =
     let args = c .before .before .before .before .before .args in
-    over-lent (args .base) (args .n + 1) (risen (args .n) (args .slot) (args .note)) {l = args .cells .now} (omega arith)
+    over-lent (args .base) (args .n + 1) (risen (args .n) (args .slot) (args .tag) (args .note)) {l = args .cells .now} (omega arith)
     (lent _ _ _ _ _ (omega arith) (c .before .before .raise .kept .0) (c .before .before .raise .ensures))
 
 pub raise-in-spec : {M : Type 1} → statement M

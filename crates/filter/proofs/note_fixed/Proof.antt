@@ -1,0 +1,40 @@
+-- `filter::note_fixed` meets its contract: the code's two stores. Assumes nothing.
+use native.Mathlib.Omega.{arith}
+use lib.ListN.{length-set}
+use borrow.Author.Needs.{needs}
+use Rattle.filter.proofs.note_fixed.Statement.{statement}
+use Rattle.filter.proofs.note_fixed.Tie as tie
+
+cast-trail : tie.Need-cast-trail
+cast-trail c = search needs
+
+slice-write-trail : tie.Need-slice-write-trail
+slice-write-trail c = search needs
+
+cast-trail-2 : tie.Need-cast-trail-2
+cast-trail-2 c = search needs
+
+add-trail : tie.Need-add-trail
+add-trail c = search needs
+
+slice-write-trail-2 : tie.Need-slice-write-trail-2
+slice-write-trail-2 c =
+    omega (arith, length-set (c .args .trail .now) (c .args .slot) (c .args .note))
+
+same-length : tie.Need-same-length
+same-length c = search needs
+
+returns : tie.Need-returns
+returns c = search needs
+
+pub note-fixed-spec : {M : Type 1} → statement M
+note-fixed-spec =
+    tie.close
+    (tie.spec
+    cast-trail
+    slice-write-trail
+    cast-trail-2
+    add-trail
+    slice-write-trail-2
+    same-length
+    returns)
