@@ -56,7 +56,10 @@ pub fn is_single(m: u32) -> bool
 pub fn is_wide(m: u32) -> bool
     ensures { λ r. ⌜ r ≡ ltb 2 (ones m) ⌝ }
 {
-    2 < u32::count_ones(m)
+    if m == 0 {
+        return false;
+    }
+    1 < count(less(m, lowest(m)))
 }
 
 // The value that m is fixed to, where it has just one.
