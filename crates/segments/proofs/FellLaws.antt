@@ -1,7 +1,7 @@
 -- The laws of `Fell` and `Answer` of specs/Fell.antt: one for each return of `fall`, from the laws of a fall and of its reversal in segments_model, and that the answer
 -- says which of the three cases holds of the slack before (`answer-clash`, `answer-reached`, `answer-quiet`).
 -- No contract cites this file. Assumes nothing.
-use mathlib.Core.Path.{_≡_, refl, ap, _∙_}
+use mathlib.Core.Path.{_≡_, refl, sym, ap, _∙_}
 use mathlib.Core.Bool.{Bool}
 use mathlib.Core.Logic.{dite}
 use mathlib.Core.List.{List}
@@ -12,9 +12,10 @@ use native.Mathlib.Omega.{arith}
 use lib.ListN.{length, getD, set, length-set}
 use Rattle.segments_model.specs.Fall.{MoreThan, Meets, Quieted}
 use Rattle.segments_model.specs.Links.{gaps, nextOf}
-use Rattle.segments_model.specs.Search.{Previous}
+use Rattle.segments_model.specs.Search.{Latest}
 use Rattle.segments_model.proofs.FallenLaws.{clashed, quiet-none, quiet-less, quiet-join, reached-spend}
-use Rattle.segments_model.proofs.LinksLaws.{next-after, end-gaps}
+use Rattle.segments_model.proofs.LatestLaws.{latest-end, latest-none}
+use Rattle.segments_model.proofs.LinksLaws.{next-after, gaps-first, end-gaps}
 use Rattle.segments_model.proofs.RaiseLaws.{reversal-none, reversal-less, reversal-join, reversal-spend}
 use Rattle.segments.specs.declared.Hit.{Hit}
 use Rattle.segments.specs.declared.Hit.the-variants.{Lowered, Still, Joined, Clash, Reached}
@@ -49,9 +50,11 @@ module _ (n slot : ℕ) (l : List ℕ) where
             barred = free;
           }
 
-      module _ (last : getD l t 0 ≡ 0) {p : ℕ} (prev : Previous slot (gaps l) p) (l′ : List ℕ) where
-        pub fell-join : 0 < p → l′ ≡ set (set l t (getD l p 0)) p (1024 + (t - p - 1)) → Fell n slot l l′ (Joined p)
-        fell-join 0<p stored =
+      module _ (last : getD l t 0 ≡ 0) {z p : ℕ} (z-is : z ≡ getD l 0 0) (latest : Latest z slot (gaps l) p) (l′ : List ℕ) where
+        pub fell-join : (p ≡ z → ⊥) → l′ ≡ set (set l t (getD l p 0)) p (1024 + (t - p - 1)) → Fell n slot l l′ (Joined p)
+        fell-join found-one stored =
+            let 0<p : 0 < p = omega (arith, found-one, latest .from) in
+            let prev = latest-end latest (omega (arith, found-one, latest .from)) in
             record {
               size = ap length stored ∙ simp length-set;
               inside = tt;
@@ -62,12 +65,15 @@ module _ (n slot : ℕ) (l : List ℕ) where
               barred = free;
             }
 
-        pub fell-spend : {z : ℕ} → p ≡ 0 → z ≡ getD l 0 0 → l′ ≡ set (set l t 1024) 0 t → Fell n slot l l′ (Reached t z)
-        fell-spend none z-is stored =
+        pub fell-spend : p ≡ z → l′ ≡ set (set l t 1024) 0 t → Fell n slot l l′ (Reached t z)
+        fell-spend none stored =
+            let first : z ≡ getD (gaps l) 0 0 = z-is ∙ sym (gaps-first l) in
             record {
               size = ap length stored ∙ simp length-set;
               inside = t≤n;
-              answer = λ C f held. rw stored (reached-spend slot held free slot≤n n<len found t≤n last prev none);
+              answer = λ C f held.
+                  rw stored
+                  (reached-spend slot held free slot≤n n<len found t≤n last (latest-none (held .cells) (rw first at latest) (none ∙ first)) refl);
               reverses = rw (stored, z-is) (reversal-spend n slot l slot≤n free found t≤n n<len last);
               barred = (free, z-is);
             }

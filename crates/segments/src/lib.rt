@@ -9,7 +9,7 @@ ghost use Rattle.segments_model.specs.Cells.{standingIn};
 ghost use Rattle.segments_model.specs.Links.{gaps, nextOf};
 ghost use Rattle.segments_model.specs.Part.{part, over, Lent};
 ghost use Rattle.segments_model.specs.Raise.{lifted, parted, risen, Raisable};
-ghost use Rattle.segments_model.specs.Search.{Previous};
+ghost use Rattle.segments_model.specs.Search.{Latest};
 ghost use Rattle.segments.specs.Fell.{Fell};
 
 // What a fall of the slack meets. No corner loses its last slack: the gap of the right end t fell by one, no right end is after the slot, or the
@@ -27,7 +27,8 @@ pub fn fall(cells: &mut [u16], n: usize, slot: usize) -> Hit
     requires { ⌜ (slot ≤ n) × (n < length (now cells)) × (n < 1024) ⌝ }
     ensures { λ r. ⌜ Fell n slot (now (cells .entry)) (now (cells .exit)) r ⌝ }
 {
-    if slot < wide(cells[0]) {
+    let z = wide(cells[0]);
+    if slot < z {
         return Hit::Clash;
     }
     let t = next_standing(cells, n, slot);
@@ -39,9 +40,8 @@ pub fn fall(cells: &mut [u16], n: usize, slot: usize) -> Hit
         cells[t] = (d - 1) as u16;
         return Hit::Lowered(t);
     }
-    let p = previous_standing(cells, slot);
-    if p == 0 {
-        let z = wide(cells[0]);
+    let p = latest_standing(cells, z, slot);
+    if p == z {
         spend(cells, t);
         return Hit::Reached(t, z);
     }
@@ -128,13 +128,13 @@ fn next_standing(cells: &[u16], n: usize, slot: usize) -> usize
     t
 }
 
-// The last right end up to the slot, or 0.
-fn previous_standing(cells: &[u16], slot: usize) -> usize
-    requires { ⌜ slot < length (now cells) ⌝ }
-    ensures { λ r. ⌜ Previous slot (gaps (now (cells .entry))) r ⌝ }
+// The last right end after z up to the slot, or z.
+fn latest_standing(cells: &[u16], z: usize, slot: usize) -> usize
+    requires { ⌜ (z ≤ slot) × (slot < length (now cells)) ⌝ }
+    ensures { λ r. ⌜ Latest z slot (gaps (now (cells .entry))) r ⌝ }
 {
     let mut p = slot;
-    while 0 < p {
+    while z < p {
         if cells[p] < 1024 {
             return p;
         }

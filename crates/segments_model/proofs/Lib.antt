@@ -8,6 +8,7 @@ pub mod FillingLaws
 pub mod InsertLaws
 pub mod JoinLaws
 pub mod LinesLaws
+pub mod LatestLaws
 pub mod LinkedLaws
 pub mod LinksLaws
 pub mod LowestLaws

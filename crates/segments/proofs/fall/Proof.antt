@@ -57,14 +57,8 @@ returns-3 c =
     let d = c .before .wide2 .ensures in
     fell-less _ _ _ (c .before .before .before .before .before .before .before .before .before .before .pre .0) (c .before .before .before .before .before .before .before .before .before .before .pre .1) (omega arith) (c .before .before .before .before .next-standing .ensures) (omega arith) _ _ (d .0) (omega arith) refl
 
-previous-standing-requires : tie.Need-previous-standing-requires
-previous-standing-requires c κs = search needs
-
-slice-read-wide-3 : tie.Need-slice-read-wide-3
-slice-read-wide-3 c = search needs
-
-wide-requires-3 : tie.Need-wide-requires-3
-wide-requires-3 c κs = search needs
+latest-standing-requires : tie.Need-latest-standing-requires
+latest-standing-requires c κs = search needs
 
 spend-requires : tie.Need-spend-requires
 spend-requires c κs = search needs
@@ -74,15 +68,16 @@ same-length-3 c = search needs
 
 returns-4 : tie.Need-returns-4
 returns-4 c =
-    let next = c .before .before .before .before .before .before .before .before .before .before .before .before .before .next-standing .ensures in
-    let d = c .before .before .before .before .before .before .before .before .before .before .wide2 .ensures in
-    fell-spend _ _ _ (c .before .before .before .before .before .before .before .before .before .before .before .before .before .before .before .before .before .before .before .pre .0) (c .before .before .before .before .before .before .before .before .before .before .before .before .before .before .before .before .before .before .before .pre .1) (omega arith) next (omega arith) (omega (arith, d .0)) (c .before .before .before .before .before .before .before .previous-standing .ensures) _ (omega arith)
-    (c .before .before .before .before .wide3 .ensures .0) (c .before .before .spend .ensures)
+    let next = c .before .before .before .before .before .before .before .before .before .before .before .next-standing .ensures in
+    let d = c .before .before .before .before .before .before .before .before .wide2 .ensures in
+    let pre = c .before .before .before .before .before .before .before .before .before .before .before .before .before .before .before .before .before .pre in
+    fell-spend _ _ _ (pre .0) (pre .1) (omega arith) next (omega arith) (omega (arith, d .0)) (c .before .before .before .before .before .before .before .before .before .before .before .before .before .before .wide .ensures .0) (c .before .before .before .before .before .latest-standing .ensures) _ (omega arith)
+    (c .before .before .spend .ensures)
 
 join-requires : tie.Need-join-requires
 join-requires c κs =
     let after = next-after (c .before .before .before .before .before .before .before .before .before .before .before .before .before .before .pre .0) (c .before .before .before .before .before .before .before .before .before .before .before .before .before .before .args .cells .now) (c .before .before .before .before .before .before .before .before .next-standing .ensures) in
-    omega (arith, after, c .before .before .previous-standing .ensures .before)
+    omega (arith, after, c .before .before .latest-standing .ensures .before)
 
 same-length-4 : tie.Need-same-length-4
 same-length-4 c = search needs
@@ -91,7 +86,8 @@ returns-5 : tie.Need-returns-5
 returns-5 c =
     let next = c .before .before .before .before .before .before .before .before .before .before .before .next-standing .ensures in
     let d = c .before .before .before .before .before .before .before .before .wide2 .ensures in
-    fell-join _ _ _ (c .before .before .before .before .before .before .before .before .before .before .before .before .before .before .before .before .before .pre .0) (c .before .before .before .before .before .before .before .before .before .before .before .before .before .before .before .before .before .pre .1) (omega arith) next (omega arith) (omega (arith, d .0)) (c .before .before .before .before .before .previous-standing .ensures) _ (omega arith)
+    let pre = c .before .before .before .before .before .before .before .before .before .before .before .before .before .before .before .before .before .pre in
+    fell-join _ _ _ (pre .0) (pre .1) (omega arith) next (omega arith) (omega (arith, d .0)) (c .before .before .before .before .before .before .before .before .before .before .before .before .before .before .wide .ensures .0) (c .before .before .before .before .before .latest-standing .ensures) _ (omega arith)
     (c .before .before .join .ensures)
 
 pub fall-spec : {M : Type 1} → statement M
@@ -113,9 +109,7 @@ fall-spec =
     slice-write-cells
     same-length-2
     returns-3
-    previous-standing-requires
-    slice-read-wide-3
-    wide-requires-3
+    latest-standing-requires
     spend-requires
     same-length-3
     returns-4
