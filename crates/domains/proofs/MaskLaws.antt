@@ -6,7 +6,7 @@
 use mathlib.Core.Path.{_≡_, refl, sym, ap, _∙_}
 use mathlib.Core.Logic.{dite}
 use Prim.Native.Nat.{ℕ, zero, suc, _+_, _-_, _*_, _/_, _%_, _^_, _≤_, _<_, zero-le, suc-le-suc}
-use native.Mathlib.Nat.{div-mul-le-self, mul-le-mul-right, le-refl, le-trans, le-antisymm, pow-suc, mul-assoc, div-one, mod-le, mod-eq-of-lt, one-mul, lt-of-not-le, zero-div, div-self, le-of-eq, add-div-right, div-eq-of-lt, lt-of-lt-of-le, zero-add}
+use native.Mathlib.Nat.{div-mul-le-self, mul-le-mul-right, le-refl, le-trans, le-antisymm, pow-suc, mul-assoc, div-one, mod-le, mod-eq-of-lt, one-mul, zero-div, div-self, le-of-eq, add-div-right, div-eq-of-lt, lt-of-lt-of-le, zero-add}
 use native.Mathlib.Numerals.{one-add}
 use native.Mathlib.Omega.{arith}
 use native.Mathlib.Decide.{ℕ-discrete}

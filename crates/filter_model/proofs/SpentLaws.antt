@@ -40,10 +40,6 @@ bound-cut n k T M N false v t v<k t≤n stable N⊆M met =
           };
     }
 
--- ---- Settled
-pub settled-before : {M : List ℕ} {v t u : ℕ} → t ≤ u → Settled M v u → Settled M v t
-settled-before t≤u settled = record { each = λ s s<t. settled .each s (omega arith) }
-
 -- ---- the spent corner z of a row
 module _ {n k : ℕ} {T : Table} {M cells : List ℕ} (mirror : Mirror n k T M cells) (kind : Bool) (v : ℕ) (v<k : v < k) (z : ℕ)
     (z-is : z ≡ getD cells (row kind k v * (n + 1)) 0) where

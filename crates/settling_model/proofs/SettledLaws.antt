@@ -1,5 +1,5 @@
--- The laws of `specs/Settled.antt`, in its order. No contract cites this file. The ones that matter most: `settled-subset` (kept as masks
--- shrink), `settled-words` and `words-settled` (document 01's words where B = upper).
+-- The laws of `specs/Settled.antt`, in its order. No contract cites this file. The ones that matter most: `settled-words` and `words-settled`
+-- (document 01's words where B = upper).
 -- Assumes nothing.
 use mathlib.Core.Logic.{dite}
 use mathlib.Core.List.{List}
@@ -7,9 +7,8 @@ use Prim.Native.Nat.{ℕ, suc, _^_, _<_}
 use native.Mathlib.Decide.{ℕ-discrete}
 use native.Mathlib.Omega.{arith}
 use lib.ListN.{getD}
-use Rattle.domains.specs.Masks.{HasAt, FixedAt, Subset}
+use Rattle.domains.specs.Masks.{HasAt, FixedAt}
 use Rattle.domains.proofs.MaskLaws.{testBit-lt}
-use Rattle.domains.proofs.MasksLaws.{has-subset, fixed-has-subset}
 use Rattle.settling_model.specs.Settled.{LacksAt, Settled}
 
 -- ---- LacksAt
@@ -44,8 +43,3 @@ settled-less settled = record { each = λ s s<t. settled .each s (omega arith) }
 pub settled-more : {M : List ℕ} {v t : ℕ} → (HasAt M t v → FixedAt M t v) → Settled M v t → Settled M v (suc t)
 settled-more {M} {v} {t} last settled =
     record { each = λ s s≤t. dite (ℕ-discrete s t) (λ e. rw e last) (λ ne. settled .each s (omega arith)) }
-
--- kept as masks shrink; a slot that has v is not empty
-pub settled-subset : {N M : List ℕ} {v t : ℕ} → Subset N M → Settled M v t → Settled N v t
-settled-subset {v} N⊆M settled =
-    record { each = λ s s<t has. fixed-has-subset N⊆M s v (settled .each s s<t (has-subset N⊆M s v has)) has }

@@ -18,8 +18,7 @@ add-trail : tie.Need-add-trail
 add-trail c = search needs
 
 slice-write-trail-2 : tie.Need-slice-write-trail-2
-slice-write-trail-2 c =
-    omega (arith, length-set (c .args .trail .now) (c .args .slot) (c .args .note))
+slice-write-trail-2 c = rw length-set (omega arith)
 
 same-length : tie.Need-same-length
 same-length c = search needs
