@@ -1,18 +1,16 @@
 -- What the loops of the cycle pass: the values that `fix` strikes (`other-cut`, `other-last`), and the slots that are settled (`free-concerned`,
 -- `settled-cut`). No contract cites this file. Assumes nothing.
-use mathlib.Core.Path.{_≡_, sym, ap, subst, _∙_}
-use mathlib.Core.Bool.{Bool, true, false, not}
+use mathlib.Core.Path.{_≡_, sym, ap, _∙_}
+use mathlib.Core.Bool.{Bool, true, false}
 use mathlib.Core.Logic.{dite}
 use mathlib.Core.List.{List}
 use Prim.Native.Nat.{ℕ, _+_, _≤_, _<_}
 use native.Mathlib.Nat.{lt-of-not-le}
 use native.Mathlib.Decide.{ℕ-discrete}
 use native.Mathlib.Omega.{arith}
-use borrow.Author.Tests.{eqb-true, eqb-false}
-use lib.Dec.{eqb}
 use lib.Count.{ones}
 use lib.ListN.{length, getD}
-use Rattle.domains.specs.Mask.{testBit, clearBit, Has, Fixed}
+use Rattle.domains.specs.Mask.{testBit, clearBit, Has}
 use Rattle.domains.specs.Masks.{HasAt, FixedAt, Alive, Subset, total}
 use Rattle.domains.proofs.MaskLaws.{testBit-lt, testBit-empty, testBit-clearBit-same, testBit-clearBit-other, testBit-clearBit-le}
 use Rattle.domains.proofs.MaskLaws.{ones-none, ones-empty, ones-clearBit, testBit-fixed-same, testBit-fixed-other, fixed-within, single-alone}
@@ -22,20 +20,7 @@ use Rattle.filter_model.specs.Cuts.{StrikeCut, FixCut, SlotCut, Concerned}
 use Rattle.filter_model.specs.Mirror.{SettledFrom}
 use Rattle.filter_model.specs.State.{World}
 use Rattle.filter_model.proofs.MirrorLaws.{settled-from-next, settled-from-subset}
-use Rattle.filter_model.proofs.StoreLaws.{single-has-fixed, many-free}
-use Rattle.filter.specs.Filtered.{Free}
-
--- ---- Free
-pub free-no : (m v : ℕ) {r : Bool} → r ≡ false → Free m v r → Has m v → Fixed m v
-free-no m v is free = subst (λ (b : Bool). Free m v b) is free
-
-pub free-yes : (m v : ℕ) {r : Bool} → r ≡ true → Free m v r → Has m v × (Fixed m v → ⊥)
-free-yes m v is free = subst (λ (b : Bool). Free m v b) is free
-
--- what has v is free where it is not single
-pub free-single : (m v : ℕ) (b : Bool) → Has m v → b ≡ eqb (ones m) 1 → Free m v (not b)
-free-single m v true has single = λ _. single-has-fixed m v (eqb-true _ _ (sym single)) has
-free-single m v false has many = (has, many-free m (eqb-false _ _ (sym many)) v)
+use Rattle.filter_model.proofs.StoreLaws.{single-has-fixed}
 
 -- ---- fix: w is one of the values that the slot has besides v
 pub record Other (M : List ℕ) (slot v w : ℕ) : Type 0 where

@@ -2,7 +2,7 @@
 -- followed (`strike-followed`; `thin-quiet` and `thin-followed` where several values are left). `follow` from its two loops: none, one, a dead
 -- end in the first, or both (`follow-none` to `follow-both`). A fix to an absent value is a dead end (`fix-absent`).
 -- No contract cites this file. Assumes nothing.
-use mathlib.Core.Path.{_≡_, refl, subst}
+use mathlib.Core.Path.{_≡_, refl}
 use mathlib.Core.Bool.{Bool, true, false}
 use mathlib.Core.Logic.{_⊎_, inl, inr, ⊎-elim, dite}
 use mathlib.Core.List.{List}
@@ -20,21 +20,10 @@ use Rattle.filter_model.specs.Mirror.{SettledAt, SettledFrom, Passed}
 use Rattle.filter_model.specs.Strike.{Due, Cuts, Struck}
 use Rattle.filter_model.proofs.MirrorLaws.{settled-from-none, settled-from-subset}
 use Rattle.filter_model.proofs.StateLaws.{moved-refl, moved-trans}
-use Rattle.filter.specs.Filtered.{Filtered, Followed, Removal·Answer}
+use Rattle.filter.specs.Filtered.{Filtered, Followed}
 use Rattle.filter.specs.declared.Outcome.{Outcome}
 use Rattle.filter.specs.declared.Outcome.the-variants.{Live, Dead}
-use Rattle.filter.specs.declared.Removal.{Removal}
-use Rattle.filter.specs.declared.Removal.the-variants.{Contradiction, Made}
 use Rattle.filter.proofs.FilteredLaws.{filtered-refl, filtered-more, filtered-goal, filtered-asks}
-
--- ---- the answers of `strike_one`
-module _ (n k : ℕ) (m c t : List ℕ) (top : ℕ) (m′ c′ t′ : List ℕ) (slot v : ℕ) {r : Removal}
-    (answer : Removal·Answer n k m c t top m′ c′ t′ slot v r) where
-  pub answer-contradicted : r ≡ Contradiction → Contradicted n k m c t m′ c′ t′ slot v
-  answer-contradicted is = subst (λ (x : Removal). Removal·Answer n k m c t top m′ c′ t′ slot v x) is answer
-
-  pub answer-removed : {x a y b w : ℕ} → r ≡ Made x a y b w → Removed n k m c t top m′ c′ t′ slot v x a y b w
-  answer-removed is = subst (λ (q : Removal). Removal·Answer n k m c t top m′ c′ t′ slot v q) is answer
 
 -- ---- nothing changed
 pub strike-absent : {n k : ℕ} (m c t : List ℕ) (top slot v : ℕ) → (HasAt m slot v → ⊥)

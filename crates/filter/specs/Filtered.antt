@@ -4,25 +4,16 @@
 --   Filtered n k Q G ..     what a call that was asked for the cut Q did: the state moved, and the cells still mirror every table that they mirrored;
 --                           Live: progress, G holds of the masks, and every stable list with the cut lies within them; Dead: there is no such list
 --   Followed v x a w y b M  after a strike: all from x on before a is settled for v, and all from y on before b for w
---   Removal·Answer          one whole strike, by the answer of `strike_one`
---   Told slot z cells ..    whether the slot is before z, a row's spent corner; then the cells stay
---   Thinned                 a strike that leaves several values, by the answer of `thin`: it cannot be, or v's note is x and its reach a
---   Free m v r              r tells whether m has v and others besides
 -- Assumes nothing.
-use mathlib.Core.Path.{_≡_}
-use mathlib.Core.Bool.{Bool, true, false}
 use mathlib.Core.List.{List}
-use Prim.Native.Nat.{ℕ, _≤_, _<_}
-use Rattle.domains.specs.Mask.{Has, Fixed}
+use Prim.Native.Nat.{ℕ}
 use Rattle.domains.specs.Masks.{Subset}
 use Rattle.closing_model.specs.Table.{Table}
 use Rattle.settling_model.specs.Stable.{Stable, tableBounds}
 use Rattle.filter_model.specs.Mirror.{Mirror, SettledFrom, Progress}
-use Rattle.filter_model.specs.State.{Moved, Contradicted, Removed}
+use Rattle.filter_model.specs.State.{Moved}
 use Rattle.filter.specs.declared.Outcome.{Outcome}
 use Rattle.filter.specs.declared.Outcome.the-variants.{Live, Dead}
-use Rattle.filter.specs.declared.Removal.{Removal}
-use Rattle.filter.specs.declared.Removal.the-variants.{Contradiction, Made}
 
 abbrev pub heightOf : Outcome → ℕ
 heightOf (Live h) = h
@@ -47,20 +38,3 @@ pub record Filtered (n k : ℕ) (Q G : List ℕ → Type 0) (masks cells trail :
 pub record Followed (v x a w y b : ℕ) (M : List ℕ) : Type 0 where
   pub low : SettledFrom M v x a
   pub high : SettledFrom M w y b
-
-abbrev pub Removal·Answer : ℕ → ℕ → List ℕ → List ℕ → List ℕ → ℕ → List ℕ → List ℕ → List ℕ → ℕ → ℕ → Removal → Type 0
-Removal·Answer n k masks cells trail top masks′ cells′ trail′ slot v Contradiction = Contradicted n k masks cells trail masks′ cells′ trail′ slot v
-Removal·Answer n k masks cells trail top masks′ cells′ trail′ slot v (Made x a y b w) =
-    Removed n k masks cells trail top masks′ cells′ trail′ slot v x a y b w
-
-abbrev pub Told : ℕ → ℕ → List ℕ → List ℕ → Bool → Type 0
-Told slot z cells cells′ true = (slot < z) × (cells′ ≡ cells)
-Told slot z cells cells′ false = z ≤ slot
-
-abbrev pub Thinned : ℕ → ℕ → List ℕ → List ℕ → List ℕ → ℕ → List ℕ → List ℕ → List ℕ → ℕ → ℕ → ℕ → ℕ → Bool → Type 0
-Thinned n k masks cells trail top masks′ cells′ trail′ slot v x a true = Contradicted n k masks cells trail masks′ cells′ trail′ slot v
-Thinned n k masks cells trail top masks′ cells′ trail′ slot v x a false = Removed n k masks cells trail top masks′ cells′ trail′ slot v x a 0 0 0
-
-abbrev pub Free : ℕ → ℕ → Bool → Type 0
-Free m v true = Has m v × (Fixed m v → ⊥)
-Free m v false = Has m v → Fixed m v

@@ -1,42 +1,20 @@
 // The filter: `fix` and `strike` call each other until everything before each corner that loses its last slack is settled, or a dead end is found.
-// Nothing is refused here. The contracts cite `specs/Filtered.antt` and the definitions of filter_model.
-ghost use mathlib.Core.Path.{_≡_};
+// Nothing is refused here. The contracts cite `specs/Filtered.antt` and the definitions of filter_model; one strike is a call of strikes.
 ghost use mathlib.Core.Bool.{true, false};
-ghost use Prim.Native.Nat.{_+_, _*_, _<_, _≤_};
-ghost use lib.Dec.{eqb, ltb};
+ghost use Prim.Native.Nat.{_≤_};
 ghost use lib.Count.{ones};
-ghost use lib.ListN.{length, getD, set};
-ghost use Rattle.domains.specs.Mask.{testBit, clearBit};
-ghost use Rattle.domains.specs.Masks.{HasAt};
+ghost use lib.ListN.{getD};
 ghost use Rattle.settling_model.specs.Settled.{Settled};
-ghost use Rattle.segments_model.specs.Part.{Lent};
 ghost use Rattle.filter_model.specs.Cuts.{StrikeCut, FixCut, BoundCut};
 ghost use Rattle.filter_model.specs.Mirror.{SettledFrom};
 ghost use Rattle.filter_model.specs.State.{Ready, Pruning};
-ghost use Rattle.filter_model.specs.Strike.{Dropped, Cuts};
-ghost use Rattle.filter_model.specs.Trail.{written, noted};
-ghost use Rattle.filter.specs.Filtered.{Filtered, Followed, Removal·Answer, Told, Thinned, Free};
+ghost use Rattle.filter_model.specs.Strike.{Cuts};
+ghost use Rattle.filter.specs.Filtered.{Filtered, Followed};
 
 // The trail's height after a call, and whether a stable list may be left.
 pub enum Outcome {
     Live(usize),
     Dead(usize),
-}
-
-// One whole strike: not made, since no stable list allows it; or made, with the slots from which on and before which the struck value must be
-// settled, those for the slot's only value, and that value.
-enum Removal {
-    Contradiction,
-    Made(usize, usize, usize, usize, u32),
-}
-
-// A row's fall: that it cannot be; the end before which all must be settled, or 0; and the tag and the note by which the fall is taken back. Where
-// there is such an end, the note is the one before which all was to be settled already.
-struct Descent {
-    clash: bool,
-    reach: usize,
-    tag: usize,
-    note: usize,
 }
 
 // Cuts the slot to value v, with all that follows: strikes each other value that it has. A slot that lacks v is a dead end.
@@ -55,9 +33,9 @@ pub fn fix(
         (now (masks .entry)) (now (cells .entry)) (now (trail .entry)) top (now (masks .exit)) (now (cells .exit)) (now (trail .exit)) r ⌝ }
 {
     let mut h = top;
-    while is_wide(masks, slot) {
-        let w = domains::lowest(without_value(masks, slot, v));
-        let low = thin(masks, cells, trail, n, k, h, slot, w);
+    while strikes::is_wide(masks, slot) {
+        let w = domains::lowest(strikes::without_value(masks, slot, v));
+        let low = strikes::thin(masks, cells, trail, n, k, h, slot, w);
         if low.clash {
             return Outcome::Dead(h);
         }
@@ -88,10 +66,10 @@ fn strike_other(
     ensures { λ r. ⌜ Filtered n k (FixCut slot v) (FixCut slot v)
         (now (masks .entry)) (now (cells .entry)) (now (trail .entry)) top (now (masks .exit)) (now (cells .exit)) (now (trail .exit)) r ⌝ }
 {
-    if !has_value(masks, slot, v) {
+    if !strikes::has_value(masks, slot, v) {
         return Outcome::Dead(top);
     }
-    let rest = without_value(masks, slot, v);
+    let rest = strikes::without_value(masks, slot, v);
     if rest == 0 {
         return Outcome::Live(top);
     }
@@ -113,11 +91,11 @@ pub fn strike(
     ensures { λ r. ⌜ Filtered n k (StrikeCut slot v) (StrikeCut slot v)
         (now (masks .entry)) (now (cells .entry)) (now (trail .entry)) top (now (masks .exit)) (now (cells .exit)) (now (trail .exit)) r ⌝ }
 {
-    if !has_value(masks, slot, v) {
+    if !strikes::has_value(masks, slot, v) {
         return Outcome::Live(top);
     }
-    let o = strike_one(masks, cells, trail, n, k, top, slot, v);
-    let Removal::Made(x, a, y, b, w) = o else {
+    let o = strikes::strike_one(masks, cells, trail, n, k, top, slot, v);
+    let strikes::Removal::Made(x, a, y, b, w) = o else {
         return Outcome::Dead(top);
     };
     if a == 0 && b == 0 {
@@ -203,7 +181,7 @@ fn fix_free(
 {
     let mut h = top;
     for s in start..end {
-        if !is_free(masks, s, v) {
+        if !strikes::is_free(masks, s, v) {
             continue;
         }
         match fix(masks, cells, trail, n, k, h, s, v) {
@@ -232,17 +210,17 @@ fn strike_free(
 {
     let mut h = top;
     for slot in start..end {
-        if !is_free(masks, slot, v) {
+        if !strikes::is_free(masks, slot, v) {
             continue;
         }
-        if !is_wide(masks, slot) {
+        if !strikes::is_wide(masks, slot) {
             match strike(masks, cells, trail, n, k, h, slot, v) {
                 Outcome::Live(x) => h = x,
                 Outcome::Dead(x) => return Outcome::Dead(x),
             }
             continue;
         }
-        let low = thin(masks, cells, trail, n, k, h, slot, v);
+        let low = strikes::thin(masks, cells, trail, n, k, h, slot, v);
         if low.clash {
             return Outcome::Dead(h);
         }
@@ -256,193 +234,4 @@ fn strike_free(
         }
     }
     Outcome::Live(h)
-}
-
-// The spent corner of a row: the last one without slack, or 0.
-pub fn spent(cells: &[u16], row: u32, n: usize) -> usize
-    requires { ⌜ row * (n + 1) + n < length (now cells) ⌝ }
-    ensures { λ r. ⌜ r ≡ getD (now (cells .entry)) (row * (n + 1)) 0 ⌝ }
-{
-    wide(cells[row as usize * (n + 1)])
-}
-
-// Strikes v, which the slot has, and brings the counts up to date; or finds that no stable list allows it, and changes nothing.
-fn strike_one(
-    masks: &mut [u32],
-    cells: &mut [u16],
-    trail: &mut [u8],
-    n: usize,
-    k: u32,
-    top: usize,
-    slot: usize,
-    v: u32,
-) -> Removal
-    requires { ⌜ Ready (now masks) (now cells) (now trail) n k top slot v × HasAt (now masks) slot v ⌝ }
-    ensures { λ r. ⌜ Removal·Answer n k (now (masks .entry)) (now (cells .entry)) (now (trail .entry)) top
-        (now (masks .exit)) (now (cells .exit)) (now (trail .exit)) slot v r ⌝ }
-{
-    let m = without_value(masks, slot, v);
-    if m == 0 {
-        return Removal::Contradiction;
-    }
-    if slot < spent(cells, v, n) {
-        return Removal::Contradiction;
-    }
-    if !domains::is_single(m) {
-        store(masks, slot, m);
-        let low = fall_row(cells, v, n, slot);
-        push(trail, n, top, slot, v, low.tag, low.note);
-        return Removal::Made(low.note, low.reach, 0, 0, 0);
-    }
-    let w = domains::single_value(m);
-    if slot < spent(cells, k + w, n) {
-        return Removal::Contradiction;
-    }
-    store(masks, slot, m);
-    let low = fall_row(cells, v, n, slot);
-    push(trail, n, top, slot, v, low.tag, low.note);
-    let high = fall_row(cells, k + w, n, slot);
-    note_fixed(trail, n, slot, high.tag, high.note);
-    Removal::Made(low.note, low.reach, high.note, high.reach, w)
-}
-
-// Strikes v from a slot that has it and at least two others, so that none gets to be the only one; or finds that no stable list allows it, and
-// changes nothing.
-fn thin(
-    masks: &mut [u32],
-    cells: &mut [u16],
-    trail: &mut [u8],
-    n: usize,
-    k: u32,
-    top: usize,
-    slot: usize,
-    v: u32,
-) -> Descent
-    requires { ⌜ Ready (now masks) (now cells) (now trail) n k top slot v × HasAt (now masks) slot v × (2 < ones (getD (now masks) slot 0)) ⌝ }
-    ensures { λ r. ⌜ Thinned n k (now (masks .entry)) (now (cells .entry)) (now (trail .entry)) top
-        (now (masks .exit)) (now (cells .exit)) (now (trail .exit)) slot v (r .note) (r .reach) (r .clash) ⌝ }
-{
-    let fell = fall_row(cells, v, n, slot);
-    if fell.clash {
-        return fell;
-    }
-    take_out(masks, slot, v);
-    push(trail, n, top, slot, v, fell.tag, fell.note);
-    fell
-}
-
-// Lowers the slack of a row by one after the slot; where the slot is before the spent corner that is a clash, and the cells stay.
-fn fall_row(cells: &mut [u16], row: u32, n: usize, slot: usize) -> Descent
-    requires { ⌜ (slot ≤ n) × (row * (n + 1) + n < length (now cells)) × (n < 1024) ⌝ }
-    ensures { λ r. ⌜ Lent (row * (n + 1)) (n + 1) (λ a b. Dropped n slot a b (r .reach) (r .tag) (r .note)) (now (cells .entry)) (now (cells .exit))
-        × Told slot (getD (now (cells .entry)) (row * (n + 1)) 0) (now (cells .entry)) (now (cells .exit)) (r .clash) ⌝ }
-{
-    let hit = segments::fall_in(cells, row as usize * (n + 1), n, slot);
-    match hit {
-        segments::Hit::Lowered(t) => {
-            return fell_by(false, 0, 0, t - 1);
-        }
-        segments::Hit::Still => {
-            return fell_by(false, 0, 1, 0);
-        }
-        segments::Hit::Joined(p) => {
-            return fell_by(false, 0, 2, p);
-        }
-        segments::Hit::Clash => {
-            return fell_by(true, 0, 1, 0);
-        }
-        segments::Hit::Reached(t, z) => {
-            return fell_by(false, t, 3, z);
-        }
-    }
-}
-
-// What a row's fall led to, from its parts.
-fn fell_by(clash: bool, reach: usize, tag: usize, note: usize) -> Descent
-    ensures { λ r. ⌜ (r .clash ≡ clash) × (r .reach ≡ reach) × (r .tag ≡ tag) × (r .note ≡ note) ⌝ }
-{
-    Descent {
-        clash,
-        reach,
-        tag,
-        note,
-    }
-}
-
-// Whether the slot has value v.
-fn has_value(masks: &[u32], slot: usize, v: u32) -> bool
-    requires { ⌜ (slot < length (now masks)) × (v < 32) ⌝ }
-    ensures { λ r. ⌜ r ≡ eqb (testBit (getD (now (masks .entry)) slot 0) v) 1 ⌝ }
-{
-    domains::has(masks[slot], v)
-}
-
-// Whether the slot has v and others besides.
-fn is_free(masks: &[u32], slot: usize, v: u32) -> bool
-    requires { ⌜ (slot < length (now masks)) × (v < 32) ⌝ }
-    ensures { λ r. ⌜ Free (getD (now (masks .entry)) slot 0) v r ⌝ }
-{
-    let m = masks[slot];
-    if !domains::has(m, v) {
-        return false;
-    }
-    !domains::is_single(m)
-}
-
-// Whether the slot has more than two values.
-fn is_wide(masks: &[u32], slot: usize) -> bool
-    requires { ⌜ slot < length (now masks) ⌝ }
-    ensures { λ r. ⌜ r ≡ ltb 2 (ones (getD (now (masks .entry)) slot 0)) ⌝ }
-{
-    domains::is_wide(masks[slot])
-}
-
-// What the slot has without v.
-fn without_value(masks: &[u32], slot: usize, v: u32) -> u32
-    requires { ⌜ (slot < length (now masks)) × (v < 32) ⌝ }
-    ensures { λ r. ⌜ r ≡ clearBit (getD (now (masks .entry)) slot 0) v ⌝ }
-{
-    domains::without(masks[slot], v)
-}
-
-// Takes v, which the slot has, out of it.
-fn take_out(masks: &mut [u32], slot: usize, v: u32)
-    requires { ⌜ (slot < length (now masks)) × (v < 32) × HasAt (now masks) slot v ⌝ }
-    ensures { λ _. ⌜ now (masks .exit) ≡ set (now (masks .entry)) slot (clearBit (getD (now (masks .entry)) slot 0) v) ⌝ }
-{
-    masks[slot] = domains::less(masks[slot], v);
-}
-
-fn store(masks: &mut [u32], slot: usize, m: u32)
-    requires { ⌜ slot < length (now masks) ⌝ }
-    ensures { λ _. ⌜ now (masks .exit) ≡ set (now (masks .entry)) slot m ⌝ }
-{
-    masks[slot] = m;
-}
-
-// Writes the struck value on the trail, with the tag and the note of its lower row's fall.
-fn push(trail: &mut [u8], n: usize, top: usize, slot: usize, v: u32, tag: usize, note: usize)
-    requires { ⌜ (2 * n + 3 * top + 2 < length (now trail)) × (slot < 256) × (v < 32) × (tag ≤ 3) × (note < 256) ⌝ }
-    ensures { λ _. ⌜ now (trail .exit) ≡ written n (now (trail .entry)) top slot v tag note ⌝ }
-{
-    let p = 2 * n + 3 * top;
-    let both = v as usize + 32 * tag;
-    trail[p] = slot as u8;
-    trail[p + 1] = both as u8;
-    trail[p + 2] = note as u8;
-}
-
-// Writes the tag and the note of the upper row's fall of the slot's only value.
-fn note_fixed(trail: &mut [u8], n: usize, slot: usize, tag: usize, note: usize)
-    requires { ⌜ (slot < n) × (2 * n ≤ length (now trail)) × (tag ≤ 3) × (note < 256) ⌝ }
-    ensures { λ _. ⌜ now (trail .exit) ≡ noted n (now (trail .entry)) slot tag note ⌝ }
-{
-    trail[slot] = note as u8;
-    trail[n + slot] = tag as u8;
-}
-
-fn wide(x: u16) -> usize
-    ensures { λ r. ⌜ r ≡ x ⌝ }
-{
-    x as usize
 }

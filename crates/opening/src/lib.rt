@@ -119,11 +119,11 @@ fn prune_value(
     ensures { λ r. ⌜ Filtered n k Anything (QuietValue n k (now (masks .entry)) (now (cells .entry)) v)
         (now (masks .entry)) (now (cells .entry)) (now (trail .entry)) top (now (masks .exit)) (now (cells .exit)) (now (trail .exit)) r ⌝ }
 {
-    let a = filter::spent(cells, v, n);
+    let a = strikes::spent(cells, v, n);
     let p = filter::prune(masks, cells, trail, n, k, top, v, a, true);
     match p {
         filter::Outcome::Live(h) => {
-            let b = filter::spent(cells, k + v, n);
+            let b = strikes::spent(cells, k + v, n);
             return filter::prune(masks, cells, trail, n, k, h, v, b, false);
         }
         filter::Outcome::Dead(x) => {

@@ -17,14 +17,15 @@ use Rattle.filter_model.specs.Cuts.{FixCut, BoundCut}
 use Rattle.filter_model.specs.Mirror.{SettledFrom}
 use Rattle.filter_model.proofs.MirrorLaws.{settled-from-none, settled-from-next, settled-from-before}
 use Rattle.filter_model.proofs.StateLaws.{world-moved, ready-slot, ready-value, ready-room}
+use Rattle.strikes.proofs.AnswerLaws.{answer-contradicted, answer-removed, thinned-clash, thinned-made, free-no, free-yes}
+use Rattle.strikes.proofs.ThinLaws.{wide-other}
 use Rattle.filter.specs.Filtered.{Filtered}
 use Rattle.filter.specs.declared.Outcome.the-variants.{Live}
 use Rattle.filter.proofs.FilteredLaws.{filtered-at, filtered-refl, filtered-more, filtered-goal, filtered-asks}
 use Rattle.filter.proofs.LoopLaws.{other-of, other-has, other-value, other-cut, other-last, other-none, total-less}
-use Rattle.filter.proofs.LoopLaws.{free-no, free-yes, free-concerned, settled-cut}
-use Rattle.filter.proofs.StrikeLaws.{answer-contradicted, answer-removed, strike-absent, strike-contradicted, strike-followed}
+use Rattle.filter.proofs.LoopLaws.{free-concerned, settled-cut}
+use Rattle.filter.proofs.StrikeLaws.{strike-absent, strike-contradicted, strike-followed}
 use Rattle.filter.proofs.StrikeLaws.{fix-absent, follow-none, follow-high, follow-low, follow-dead, follow-both, thin-quiet, thin-followed}
-use Rattle.filter.proofs.ThinLaws.{wide-other, thinned-clash, thinned-made}
 use Rattle.filter.proofs.fix.Reads as fix
 use Rattle.filter.proofs.fix.Kinds as fix-kinds
 use Rattle.filter.proofs.+fix+fix_free+follow+strike+strike_free+strike_other.Lts-fix as fix-lts
@@ -43,13 +44,13 @@ use Rattle.filter.proofs.+fix+fix_free+follow+strike+strike_free+strike
 use Rattle.filter.proofs.strike_other.Reads as strike-other
 use Rattle.filter.proofs.strike_other.Kinds as strike-other-kinds
 use Rattle.filter.proofs.+fix+fix_free+follow+strike+strike_free+strike_other.Lts-strike_other as strike-other-lts
-use Rattle.filter.proofs.has_value.Reads as has-value-reads
-use Rattle.filter.proofs.is_free.Reads as is-free-reads
-use Rattle.filter.proofs.is_wide.Reads as is-wide-reads
+use Rattle.strikes.proofs.has_value.Reads as has-value-reads
+use Rattle.strikes.proofs.is_free.Reads as is-free-reads
+use Rattle.strikes.proofs.is_wide.Reads as is-wide-reads
 use Rattle.domains.proofs.lowest.Reads as lowest-reads
-use Rattle.filter.proofs.strike_one.Reads as strike-one-reads
-use Rattle.filter.proofs.thin.Reads as thin-reads
-use Rattle.filter.proofs.without_value.Reads as without-value-reads
+use Rattle.strikes.proofs.strike_one.Reads as strike-one-reads
+use Rattle.strikes.proofs.thin.Reads as thin-reads
+use Rattle.strikes.proofs.without_value.Reads as without-value-reads
 use Rattle.filter.proofs.+fix+fix_free+follow+strike+strike_free+strike_other.{statement}
 use Rattle.filter.proofs.+fix+fix_free+follow+strike+strike_free+strike_other.Tie.{close}
 

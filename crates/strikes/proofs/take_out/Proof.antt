@@ -1,10 +1,10 @@
--- `filter::take_out` meets its contract: what `domains::less` leaves is stored. Assumes nothing.
+-- `strikes::take_out` meets its contract: what `domains::less` leaves is stored. Assumes nothing.
 use mathlib.Core.Path.{ap}
 use Prim.Native.Nat.{ℕ}
 use lib.ListN.{set}
 use borrow.Author.Needs.{needs}
-use Rattle.filter.proofs.take_out.Statement.{statement}
-use Rattle.filter.proofs.take_out.Tie as tie
+use Rattle.strikes.proofs.take_out.Statement.{statement}
+use Rattle.strikes.proofs.take_out.Tie as tie
 
 mul-less : tie.Need-mul-less
 mul-less c = search needs

@@ -1,4 +1,4 @@
--- `filter::strike_one` meets its contract: each of its three tests is a law of ContradictionLaws, and each of its two ways to a strike a law of
+-- `strikes::strike_one` meets its contract: each of its three tests is a law of ContradictionLaws, and each of its two ways to a strike a law of
 -- RemovalLaws; the notes fit a byte, and the tags (`low-note`, `low-tag`, `high-note`, `high-tag`). Assumes nothing.
 use mathlib.Core.Path.{refl, sym, _∙_}
 use Prim.Native.Nat.{_+_}
@@ -8,8 +8,8 @@ use borrow.Author.Needs.{needs}
 use Rattle.filter_model.proofs.StateLaws.{world-row, ready-room, ready-byte, ready-value}
 use Rattle.filter_model.proofs.ContradictionLaws.{left-in, contradicted-empty, contradicted-low, contradicted-high}
 use Rattle.filter_model.proofs.RemovalLaws.{low-note, low-tag, high-note, high-tag, removed-plain, removed-single}
-use Rattle.filter.proofs.strike_one.Statement.{statement}
-use Rattle.filter.proofs.strike_one.Tie as tie
+use Rattle.strikes.proofs.strike_one.Statement.{statement}
+use Rattle.strikes.proofs.strike_one.Tie as tie
 
 without-value-requires : tie.Need-without-value-requires
 without-value-requires c κs = search needs

@@ -1,11 +1,11 @@
--- `filter::is_free` meets its contract: a mask that has v is fixed to it exactly where it is single (`free-single`).
+-- `strikes::is_free` meets its contract: a mask that has v is fixed to it exactly where it is single (`free-single`).
 -- Assumes nothing.
 use mathlib.Core.Path.{sym, _∙_}
 use borrow.Author.Tests.{eqb-true, eqb-false, not-true, not-false}
 use borrow.Author.Needs.{needs}
-use Rattle.filter.proofs.LoopLaws.{free-single}
-use Rattle.filter.proofs.is_free.Statement.{statement}
-use Rattle.filter.proofs.is_free.Tie as tie
+use Rattle.strikes.proofs.AnswerLaws.{free-single}
+use Rattle.strikes.proofs.is_free.Statement.{statement}
+use Rattle.strikes.proofs.is_free.Tie as tie
 
 mul-m : tie.Need-mul-m
 mul-m c = search needs

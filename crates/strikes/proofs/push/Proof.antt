@@ -1,10 +1,10 @@
--- `filter::push` meets its contract: the code's three stores. Assumes nothing.
+-- `strikes::push` meets its contract: the code's three stores. Assumes nothing.
 use Prim.Native.Nat.{_+_, _*_}
 use native.Mathlib.Omega.{arith}
 use lib.ListN.{length-set}
 use borrow.Author.Needs.{needs}
-use Rattle.filter.proofs.push.Statement.{statement}
-use Rattle.filter.proofs.push.Tie as tie
+use Rattle.strikes.proofs.push.Statement.{statement}
+use Rattle.strikes.proofs.push.Tie as tie
 
 mul-p : tie.Need-mul-p
 mul-p c = search needs

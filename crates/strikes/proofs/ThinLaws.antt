@@ -1,6 +1,6 @@
 -- `thin` from its parts: the fall cannot be (`thin-barred`), or it is made, with the store and what is written on the trail (`thin-made`); its tag
--- and note fit a byte (`thin-tag`, `thin-note`). And what its two answers say (`thinned-clash`, `thinned-made`). No contract cites this file. Assumes nothing.
-use mathlib.Core.Path.{_≡_, refl, sym, ap, subst, _∙_}
+-- and note fit a byte (`thin-tag`, `thin-note`). No contract cites this file. Assumes nothing.
+use mathlib.Core.Path.{_≡_, refl, sym, ap, _∙_}
 use mathlib.Core.Bool.{Bool, true, false}
 use mathlib.Core.List.{List}
 use Prim.Native.Nat.{ℕ, _+_, _*_, _≤_, _<_}
@@ -11,12 +11,13 @@ use Rattle.domains.specs.Mask.{clearBit}
 use Rattle.domains.specs.Masks.{HasAt}
 use Rattle.domains.proofs.MaskLaws.{testBit-lt, ones-none, ones-clearBit}
 use Rattle.segments_model.specs.Part.{Lent}
-use Rattle.filter_model.specs.State.{Ready, Contradicted, Removed}
+use Rattle.filter_model.specs.State.{Ready}
 use Rattle.filter_model.specs.Strike.{Dropped}
 use Rattle.filter_model.specs.Trail.{written}
 use Rattle.filter_model.proofs.ContradictionLaws.{contradicted-low}
 use Rattle.filter_model.proofs.RemovalLaws.{low-note, low-tag, removed-plain}
-use Rattle.filter.specs.Filtered.{Told, Thinned}
+use Rattle.strikes.specs.Answers.{Told, Thinned}
+use Rattle.strikes.proofs.AnswerLaws.{told-clash, told-free}
 
 -- ---- a mask of more than two values, one of them taken out
 module _ (m v : ℕ) (wide : 2 < ones m) where
@@ -34,23 +35,7 @@ module _ (m v : ℕ) (wide : 2 < ones m) where
   wide-many : ones (clearBit m v) ≡ 1 → ⊥
   wide-many one = omega (arith, wide-left)
 
--- ---- Told
-module _ (slot z : ℕ) (c c′ : List ℕ) {clash : Bool} (told : Told slot z c c′ clash) where
-  told-clash : clash ≡ true → (slot < z) × (c′ ≡ c)
-  told-clash is = subst (λ (b : Bool). Told slot z c c′ b) is told
-
-  told-free : clash ≡ false → z ≤ slot
-  told-free is = subst (λ (b : Bool). Told slot z c c′ b) is told
-
--- ---- Thinned
-module _ (n k : ℕ) (m c t : List ℕ) (top : ℕ) (m′ c′ t′ : List ℕ) (slot v x a : ℕ) {clash : Bool}
-    (thinned : Thinned n k m c t top m′ c′ t′ slot v x a clash) where
-  pub thinned-clash : clash ≡ true → Contradicted n k m c t m′ c′ t′ slot v
-  thinned-clash is = subst (λ (b : Bool). Thinned n k m c t top m′ c′ t′ slot v x a b) is thinned
-
-  pub thinned-made : clash ≡ false → Removed n k m c t top m′ c′ t′ slot v x a 0 0 0
-  thinned-made is = subst (λ (b : Bool). Thinned n k m c t top m′ c′ t′ slot v x a b) is thinned
-
+-- ---- thin
 module _ {masks cells trail : List ℕ} {n k top slot v : ℕ} (ready : Ready masks cells trail n k top slot v) (has : HasAt masks slot v)
     (cells′ : List ℕ) {clash : Bool} (told : Told slot (getD cells (v * (n + 1)) 0) cells cells′ clash) where
   pub thin-barred : (x a : ℕ) → clash ≡ true → Thinned n k masks cells trail top masks cells′ trail slot v x a clash

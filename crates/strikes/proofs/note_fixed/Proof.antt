@@ -1,9 +1,9 @@
--- `filter::note_fixed` meets its contract: the code's two stores. Assumes nothing.
+-- `strikes::note_fixed` meets its contract: the code's two stores. Assumes nothing.
 use native.Mathlib.Omega.{arith}
 use lib.ListN.{length-set}
 use borrow.Author.Needs.{needs}
-use Rattle.filter.proofs.note_fixed.Statement.{statement}
-use Rattle.filter.proofs.note_fixed.Tie as tie
+use Rattle.strikes.proofs.note_fixed.Statement.{statement}
+use Rattle.strikes.proofs.note_fixed.Tie as tie
 
 cast-trail : tie.Need-cast-trail
 cast-trail c = search needs

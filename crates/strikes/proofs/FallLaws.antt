@@ -16,7 +16,7 @@ use Rattle.segments.specs.declared.Hit.{Hit}
 use Rattle.segments.specs.declared.Hit.the-variants.{Lowered, Still, Joined, Clash, Reached}
 use Rattle.filter_model.specs.Strike.{Dropped}
 use Rattle.filter_model.proofs.RowLaws.{row-first}
-use Rattle.filter.specs.Filtered.{Told}
+use Rattle.strikes.specs.Answers.{Told}
 
 module _ (n slot : ℕ) (a b : List ℕ) {r : Hit} (fell : Fell n slot a b r) where
   answer-at : (r′ : Hit) → r ≡ r′ → (C : ℕ → Bool) (f : ℕ → ℕ) → Held n C f a → Answer n C f slot a b r′

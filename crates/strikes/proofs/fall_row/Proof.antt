@@ -1,10 +1,10 @@
--- `filter::fall_row` meets its contract: the answer of `segments::fall_in`, read as a clash, a reach, a tag and a note (`dropped-lowered` to
+-- `strikes::fall_row` meets its contract: the answer of `segments::fall_in`, read as a clash, a reach, a tag and a note (`dropped-lowered` to
 -- `dropped-reached`). Assumes nothing.
 use native.Mathlib.Omega.{arith}
-use Rattle.filter.proofs.FallLaws.{lowered-after, dropped-lowered, dropped-still, dropped-joined, dropped-clash, dropped-reached}
+use Rattle.strikes.proofs.FallLaws.{lowered-after, dropped-lowered, dropped-still, dropped-joined, dropped-clash, dropped-reached}
 use borrow.Author.Needs.{needs}
-use Rattle.filter.proofs.fall_row.Statement.{statement}
-use Rattle.filter.proofs.fall_row.Tie as tie
+use Rattle.strikes.proofs.fall_row.Statement.{statement}
+use Rattle.strikes.proofs.fall_row.Tie as tie
 
 add-fall-in : tie.Need-add-fall-in
 add-fall-in c = search needs

@@ -1,0 +1,3 @@
+pub mod AnswerLaws
+mod FallLaws
+pub mod ThinLaws
