@@ -11,6 +11,8 @@ use crate::{engine, in_place};
 
 const BOOKS: usize = 5;
 const PASSES: usize = 21;
+/// Runs before each one that is timed.
+const WARM: usize = 8;
 const MARKS: usize = 256;
 /// Decisions after each mark.
 const DECISIONS: usize = 4;
@@ -117,20 +119,29 @@ const PLAIN: Contender = |book, calls, outputs| {
     assert_eq!(opened, 0);
 };
 
-/// The median time of each contender for a list, in nanoseconds. The contenders take turns.
-fn medians(book: &[u8], calls: &[u8]) -> [f64; 2] {
+/// The median time of each contender for each list, in nanoseconds. Lists and contenders take turns, so that what the
+/// machine does besides falls on all alike, and differences between lists are of one time. Each time is that of a
+/// ninth run, so that no list pays for what another left in caches and predictors.
+fn medians<const N: usize>(book: &[u8], lists: [&[u8]; N]) -> [[f64; 2]; N] {
     let mut outputs = Outputs::new();
-    let mut times = [Vec::new(), Vec::new()];
+    let mut times = [(); N].map(|()| [Vec::new(), Vec::new()]);
     for _ in 0..PASSES {
-        for (contender, times) in [PROVED, PLAIN].iter().zip(&mut times) {
-            let begin = Instant::now();
-            contender(book, calls, &mut outputs);
-            times.push(begin.elapsed());
+        for (calls, times) in lists.iter().zip(&mut times) {
+            for (contender, times) in [PROVED, PLAIN].iter().zip(times) {
+                for _ in 0..WARM {
+                    contender(book, calls, &mut outputs);
+                }
+                let begin = Instant::now();
+                contender(book, calls, &mut outputs);
+                times.push(begin.elapsed());
+            }
         }
     }
-    times.map(|mut times| {
-        times.sort();
-        times[times.len() / 2].as_secs_f64() * 1e9
+    times.map(|times| {
+        times.map(|mut times| {
+            times.sort();
+            times[times.len() / 2].as_secs_f64() * 1e9
+        })
     })
 }
 
@@ -151,13 +162,12 @@ pub fn run() {
         decisions += list.decisions;
         struck += list.struck;
         assert_same(&book, &list.calls);
-        let opening = medians(&book, &[]);
-        let marks = medians(&book, &[3, 0, 0, 0].repeat(MARKS));
-        let down = medians(&book, list.down());
-        let down_and_back = medians(&book, list.down_and_back());
-        let whole = medians(&book, &list.calls);
+        let pairs = [3, 0, 0, 0, 4, 0, 0, 0].repeat(CALLS / 2);
+        let lists = [&[], &pairs[..], list.down(), list.down_and_back(), &list.calls[..]];
+        let [opening, pairs, down, down_and_back, whole] = medians(&book, lists);
         for at in 0..2 {
-            let mark = (marks[at] - opening[at]) / MARKS as f64;
+            // One mark is too little to be timed: it is taken for half of a mark and its empty back.
+            let mark = (pairs[at] - opening[at]) / CALLS as f64;
             let decided = down[at] - opening[at] - mark * list.marks as f64;
             sums[0][at] += opening[at];
             sums[1][at] += mark;
