@@ -1138,7 +1138,7 @@ strike-other-without-value-requires : (t : ℕ) → strike-other-lts.Need-withou
     strike-other.Post
 strike-other-without-value-requires t c κs =
     let ready = c .before .before .before .before .before .before .before .pre .1 .0 in
-    (ready-slot ready, ready-value ready)
+    (ready-slot ready, omega (arith, ready-value ready))
 
 strike-other-returns-2 : (t : ℕ) → strike-other-lts.Need-returns-2 (strike-other-calls t) (strike-other-at t) strike-other.Post
 strike-other-returns-2 t c =

@@ -25,7 +25,7 @@ returns c = thin-barred (c .before .before .before .before .before .before .befo
 take-out-requires : tie.Need-take-out-requires
 take-out-requires c κs =
     let pre = c .before .before .before .before .before .before .before .before .before .pre in
-    (ready-slot (pre .0), ready-value (pre .0), pre .1)
+    (ready-slot (pre .0), omega (arith, ready-value (pre .0)), pre .1)
 
 push-requires : tie.Need-push-requires
 push-requires c κs =
@@ -34,7 +34,7 @@ push-requires c κs =
     let fall-row = c .before .before .before .before .before .before .before .before .fall-row in
     let note = thin-note ready (pre .1) _ (fall-row .ensures .1) (pre .2) (c .before .before .before .before .before .if1 .left) (fall-row .ensures .0) in
     let tag = thin-tag ready (pre .1) _ (fall-row .ensures .1) (pre .2) (c .before .before .before .before .before .if1 .left) (fall-row .ensures .0) in
-    (ready-room ready (pre .1), ready-byte ready, ready-value ready, tag, note)
+    (ready-room ready (pre .1), ready-byte ready, ready-value ready, tag, omega (arith, note))
 
 same-length-2 : tie.Need-same-length-2
 same-length-2 c = search needs
