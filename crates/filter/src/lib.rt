@@ -9,6 +9,7 @@ ghost use Rattle.filter_model.specs.Cuts.{StrikeCut, FixCut, BoundCut};
 ghost use Rattle.filter_model.specs.Mirror.{SettledFrom};
 ghost use Rattle.filter_model.specs.State.{Ready, Pruning};
 ghost use Rattle.filter_model.specs.Strike.{Cuts};
+ghost use Rattle.strikes.specs.Answers.{OtherValues};
 ghost use Rattle.filter.specs.Filtered.{Filtered, Followed};
 
 // The trail's height after a call, and whether a stable list may be left.
@@ -33,9 +34,12 @@ pub fn fix(
         (now (masks .entry)) (now (cells .entry)) (now (trail .entry)) top (now (masks .exit)) (now (cells .exit)) (now (trail .exit)) r ⌝ }
 {
     let mut h = top;
-    while strikes::is_wide(masks, slot) {
-        let w = domains::lowest(strikes::without_value(masks, slot, v));
-        let low = strikes::thin(masks, cells, trail, n, k, h, slot, w);
+    let mut rest = strikes::other_values(masks, slot, v);
+    while 1 < domains::count(rest) {
+        let w = domains::lowest(rest);
+        rest = domains::less(rest, w);
+        let left = domains::with(rest, v);
+        let low = strikes::thin(masks, cells, trail, n, k, h, slot, w, left);
         if low.clash {
             return Outcome::Dead(h);
         }
@@ -47,11 +51,12 @@ pub fn fix(
             Outcome::Live(x) => h = x,
             Outcome::Dead(x) => return Outcome::Dead(x),
         }
+        rest = strikes::other_values(masks, slot, v);
     }
-    strike_other(masks, cells, trail, n, k, h, slot, v)
+    strike_other(masks, cells, trail, n, k, h, slot, v, rest)
 }
 
-// Cuts a slot that has at most two values to v.
+// Cuts the slot to v: strikes `rest`, its other values, of which there is at most one. A slot that lacks v is a dead end.
 fn strike_other(
     masks: &mut [u32],
     cells: &mut [u16],
@@ -61,19 +66,19 @@ fn strike_other(
     top: usize,
     slot: usize,
     v: u32,
+    rest: u32,
 ) -> Outcome
-    requires { ⌜ Ready (now masks) (now cells) (now trail) n k top slot v × (ones (getD (now masks) slot 0) ≤ 2) ⌝ }
+    requires { ⌜ Ready (now masks) (now cells) (now trail) n k top slot v × OtherValues (getD (now masks) slot 0) v rest × (ones rest ≤ 1) ⌝ }
     ensures { λ r. ⌜ Filtered n k (FixCut slot v) (FixCut slot v)
         (now (masks .entry)) (now (cells .entry)) (now (trail .entry)) top (now (masks .exit)) (now (cells .exit)) (now (trail .exit)) r ⌝ }
 {
+    if rest != 0 {
+        return strike(masks, cells, trail, n, k, top, slot, domains::lowest(rest));
+    }
     if !strikes::has_value(masks, slot, v) {
         return Outcome::Dead(top);
     }
-    let rest = strikes::without_value(masks, slot, v);
-    if rest == 0 {
-        return Outcome::Live(top);
-    }
-    strike(masks, cells, trail, n, k, top, slot, domains::lowest(rest))
+    Outcome::Live(top)
 }
 
 // Takes value v out of the slot, with all that follows.
@@ -220,7 +225,8 @@ fn strike_free(
             }
             continue;
         }
-        let low = strikes::thin(masks, cells, trail, n, k, h, slot, v);
+        let left = strikes::without_value(masks, slot, v);
+        let low = strikes::thin(masks, cells, trail, n, k, h, slot, v, left);
         if low.clash {
             return Outcome::Dead(h);
         }

@@ -1,3 +1,4 @@
 pub mod AnswerLaws
 mod FallLaws
+pub mod OthersLaws
 pub mod ThinLaws

@@ -1,6 +1,6 @@
 -- `thin` from its parts: the fall cannot be (`thin-barred`), or it is made, with the store and what is written on the trail (`thin-made`); its tag
 -- and note fit a byte (`thin-tag`, `thin-note`). No contract cites this file. Assumes nothing.
-use mathlib.Core.Path.{_≡_, refl, sym, ap, _∙_}
+use mathlib.Core.Path.{_≡_, refl, ap, _∙_}
 use mathlib.Core.Bool.{Bool, true, false}
 use mathlib.Core.List.{List}
 use Prim.Native.Nat.{ℕ, _+_, _*_, _≤_, _<_}
@@ -27,11 +27,6 @@ module _ (m v : ℕ) (wide : 2 < ones m) where
   wide-some : clearBit m v ≡ 0 → ⊥
   wide-some none = omega (arith, wide-left, ap ones none, ones-none)
 
-  pub wide-other : {rest : ℕ} → rest ≡ clearBit m v → 0 < rest
-  wide-other {rest} rest-is =
-      let some : (rest ≡ 0 → ⊥) = λ none. wide-some (sym rest-is ∙ none) in
-      omega (arith, some)
-
   wide-many : ones (clearBit m v) ≡ 1 → ⊥
   wide-many one = omega (arith, wide-left)
 
@@ -57,9 +52,9 @@ module _ {masks cells trail : List ℕ} {n k top slot v : ℕ} (ready : Ready ma
     pub thin-note : x < 256
     thin-note = low-note ready has left refl (wide-some (getD masks slot 0) v wide) refl spent-free lent
 
-    pub thin-made : {masks′ trail′ : List ℕ} → masks′ ≡ set masks slot (clearBit (getD masks slot 0) v) → trail′ ≡ written n trail top slot v g x
+    pub thin-made : {masks′ trail′ : List ℕ} {m : ℕ} → masks′ ≡ set masks slot m → m ≡ left → trail′ ≡ written n trail top slot v g x
         → Thinned n k masks cells trail top masks′ cells′ trail′ slot v x a clash
-    thin-made masks-are trail-is =
+    thin-made masks-are m-is trail-is =
         rw is
-        (removed-plain ready has left refl (wide-some (getD masks slot 0) v wide) refl spent-free lent masks-are trail-is
-        (wide-many (getD masks slot 0) v wide))
+        (removed-plain ready has left refl (wide-some (getD masks slot 0) v wide) refl spent-free lent
+        (masks-are ∙ ap (λ (y : ℕ). set masks slot y) m-is) trail-is (wide-many (getD masks slot 0) v wide))

@@ -13,7 +13,7 @@ ghost use Rattle.segments_model.specs.Part.{Lent};
 ghost use Rattle.filter_model.specs.State.{Ready};
 ghost use Rattle.filter_model.specs.Strike.{Dropped};
 ghost use Rattle.filter_model.specs.Trail.{written, noted};
-ghost use Rattle.strikes.specs.Answers.{Removal·Answer, Told, Thinned, Free};
+ghost use Rattle.strikes.specs.Answers.{Removal·Answer, Told, Thinned, Free, OtherValues};
 
 // One whole strike: not made, since no stable list allows it; or made, with the slots from which on and before which the struck value must be
 // settled, those for the slot's only value, and that value.
@@ -72,7 +72,7 @@ pub fn strike_one(
 }
 
 // Strikes v from a slot that has it and at least two others, so that none gets to be the only one; or finds that no stable list allows it, and
-// changes nothing.
+// changes nothing. `left` is the slot's mask without v.
 pub fn thin(
     masks: &mut [u32],
     cells: &mut [u16],
@@ -82,8 +82,10 @@ pub fn thin(
     top: usize,
     slot: usize,
     v: u32,
+    left: u32,
 ) -> Descent
-    requires { ⌜ Ready (now masks) (now cells) (now trail) n k top slot v × HasAt (now masks) slot v × (2 < ones (getD (now masks) slot 0)) ⌝ }
+    requires { ⌜ Ready (now masks) (now cells) (now trail) n k top slot v × HasAt (now masks) slot v
+        × (2 < ones (getD (now masks) slot 0)) × (left ≡ clearBit (getD (now masks) slot 0) v) ⌝ }
     ensures { λ r. ⌜ Thinned n k (now (masks .entry)) (now (cells .entry)) (now (trail .entry)) top
         (now (masks .exit)) (now (cells .exit)) (now (trail .exit)) slot v (r .note) (r .reach) (r .clash) ⌝ }
 {
@@ -91,8 +93,8 @@ pub fn thin(
     if fell.clash {
         return fell;
     }
-    take_out(masks, slot, v);
     push(trail, n, top, slot, v, fell.tag, fell.note);
+    store(masks, slot, left);
     fell
 }
 
@@ -140,6 +142,18 @@ pub fn without_value(masks: &[u32], slot: usize, v: u32) -> u32
     domains::without(masks[slot], v)
 }
 
+// What the slot has besides v; 0 where it lacks v.
+pub fn other_values(masks: &[u32], slot: usize, v: u32) -> u32
+    requires { ⌜ (slot < length (now masks)) × (v < 32) ⌝ }
+    ensures { λ r. ⌜ OtherValues (getD (now (masks .entry)) slot 0) v r ⌝ }
+{
+    let m = masks[slot];
+    if !domains::has(m, v) {
+        return 0;
+    }
+    domains::less(m, v)
+}
+
 // Lowers the slack of a row by one after the slot; where the slot is before the spent corner that is a clash, and the cells stay.
 fn fall_row(cells: &mut [u16], row: u32, n: usize, slot: usize) -> Descent
     requires { ⌜ (slot ≤ n) × (row * (n + 1) + n < length (now cells)) × (n < 1024) ⌝ }
@@ -176,14 +190,6 @@ fn fell_by(clash: bool, reach: usize, tag: usize, note: usize) -> Descent
         tag,
         note,
     }
-}
-
-// Takes v, which the slot has, out of it.
-fn take_out(masks: &mut [u32], slot: usize, v: u32)
-    requires { ⌜ (slot < length (now masks)) × (v < 32) × HasAt (now masks) slot v ⌝ }
-    ensures { λ _. ⌜ now (masks .exit) ≡ set (now (masks .entry)) slot (clearBit (getD (now (masks .entry)) slot 0) v) ⌝ }
-{
-    masks[slot] = domains::less(masks[slot], v);
 }
 
 fn store(masks: &mut [u32], slot: usize, m: u32)

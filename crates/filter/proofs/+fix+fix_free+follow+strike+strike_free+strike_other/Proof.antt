@@ -1,28 +1,31 @@
 -- The proof of the cycle of calls of `fix`, `fix_free`, `follow`, `strike`, `strike_free` and `strike_other`. The measure is five times the values
 -- that are left, plus 1 for `strike_other`, 2 for `fix`, 3 for `fix_free` and `strike_free`, and 4 for `follow`. The invariant of each loop is
--- `Filtered` for what was passed: the other values that are struck, the slots that are settled; each turn is `filtered-more`. A turn with
--- `thin` is `thin-quiet` or `thin-followed`; `strike` is `strike-followed`, and `follow` is `follow-both` where both its loops run. Assumes nothing.
+-- `Filtered` for what was passed: the other values that are struck, the slots that are settled; each turn is `filtered-more`. In `fix` it is also
+-- that `rest` is what the slot has besides v (`others-less`). A turn with `thin` is `thin-quiet` or `thin-followed`; `strike` is
+-- `strike-followed`, and `follow` is `follow-both` where both its loops run. Assumes nothing.
 use mathlib.Core.Path.{_≡_, sym, _∙_}
 use mathlib.Core.Bool.{Bool, true, false}
 use mathlib.Core.List.{List}
 use Prim.Native.Nat.{ℕ, _+_, _-_, _*_, _<_}
 use native.Mathlib.Omega.{arith}
-use lib.ListN.{length}
+use lib.Count.{ones}
+use lib.ListN.{length, getD}
 use borrow.Author.Needs.{needs}
-use borrow.Author.Tests.{eqb-true, eqb-false, ltb-true, ltb-false, not-true, not-false}
+use borrow.Author.Tests.{eqb-true, eqb-false, ltb-true, not-true, not-false}
 use borrow.Fn.Kinds.{In}
 use borrow.Fn.PlainCycle.{Measures, is, falls, and}
-use Rattle.domains.specs.Masks.{total}
+use Rattle.domains.specs.Masks.{HasAt, total}
 use Rattle.filter_model.specs.Cuts.{FixCut, BoundCut}
 use Rattle.filter_model.specs.Mirror.{SettledFrom}
 use Rattle.filter_model.proofs.MirrorLaws.{settled-from-none, settled-from-next, settled-from-before}
 use Rattle.filter_model.proofs.StateLaws.{world-moved, ready-slot, ready-value, ready-room}
+use Rattle.strikes.specs.Answers.{OtherValues}
 use Rattle.strikes.proofs.AnswerLaws.{answer-contradicted, answer-removed, thinned-clash, thinned-made, free-no, free-yes}
-use Rattle.strikes.proofs.ThinLaws.{wide-other}
+use Rattle.strikes.proofs.OthersLaws.{others-few, others-some, others-are, others-wide, less-lacks, less-with, others-less, removed-left}
 use Rattle.filter.specs.Filtered.{Filtered}
 use Rattle.filter.specs.declared.Outcome.the-variants.{Live}
 use Rattle.filter.proofs.FilteredLaws.{filtered-at, filtered-refl, filtered-more, filtered-goal, filtered-asks}
-use Rattle.filter.proofs.LoopLaws.{other-of, other-has, other-value, other-cut, other-last, other-none, total-less}
+use Rattle.filter.proofs.LoopLaws.{Other, other-of, other-has, other-value, other-cut, other-last, other-none, total-less}
 use Rattle.filter.proofs.LoopLaws.{free-concerned, settled-cut}
 use Rattle.filter.proofs.StrikeLaws.{strike-absent, strike-contradicted, strike-followed}
 use Rattle.filter.proofs.StrikeLaws.{fix-absent, follow-none, follow-high, follow-low, follow-dead, follow-both, thin-quiet, thin-followed}
@@ -47,16 +50,21 @@ use Rattle.filter.proofs.+fix+fix_free+follow+strike+strike_free+strike
 use Rattle.strikes.proofs.has_value.Reads as has-value-reads
 use Rattle.strikes.proofs.is_free.Reads as is-free-reads
 use Rattle.strikes.proofs.is_wide.Reads as is-wide-reads
+use Rattle.domains.proofs.count.Reads as count-reads
+use Rattle.domains.proofs.less.Reads as less-reads
 use Rattle.domains.proofs.lowest.Reads as lowest-reads
+use Rattle.domains.proofs.with.Reads as with-reads
+use Rattle.strikes.proofs.other_values.Reads as other-values-reads
 use Rattle.strikes.proofs.strike_one.Reads as strike-one-reads
 use Rattle.strikes.proofs.thin.Reads as thin-reads
 use Rattle.strikes.proofs.without_value.Reads as without-value-reads
 use Rattle.filter.proofs.+fix+fix_free+follow+strike+strike_free+strike_other.{statement}
 use Rattle.filter.proofs.+fix+fix_free+follow+strike+strike_free+strike_other.Tie.{close}
 
--- some of the slot's other values are struck
-record FixInv (n k slot v : ℕ) (masks₀ cells₀ trail₀ : List ℕ) (h₀ : ℕ) (masks cells trail : List ℕ) (h : ℕ) : Type 0 where
+-- some of the slot's other values are struck, and `rest` is those that are left
+record FixInv (n k slot v : ℕ) (masks₀ cells₀ trail₀ : List ℕ) (h₀ : ℕ) (masks cells trail : List ℕ) (h rest : ℕ) : Type 0 where
   done : Filtered n k (FixCut slot v) (λ M. Unit {0}) masks₀ cells₀ trail₀ h₀ masks cells trail (Live h)
+  others : OtherValues (getD masks slot 0) v rest
 
 -- all from the start on before s is settled
 record FreeInv (kind : Bool) (n k v start end : ℕ) (masks₀ cells₀ trail₀ : List ℕ) (h₀ : ℕ) (masks cells trail : List ℕ) (h s : ℕ) : Type 0 where
@@ -118,12 +126,16 @@ strike-other-below t = and 3 strike-other-kinds.ps (falls 3 strike-other-kinds.p
 
 abbrev fix-calls : ℕ → fix-lts.Claims
 fix-calls t = (
-  is-wide-reads.Asked,
-  is-wide-reads.Learnt,
-  without-value-reads.Asked,
-  without-value-reads.Learnt,
+  other-values-reads.Asked,
+  other-values-reads.Learnt,
+  count-reads.Asked,
+  count-reads.Learnt,
   lowest-reads.Asked,
   lowest-reads.Learnt,
+  less-reads.Asked,
+  less-reads.Learnt,
+  with-reads.Asked,
+  with-reads.Learnt,
   thin-reads.Asked,
   thin-reads.Learnt,
   fix-free-below t,
@@ -149,6 +161,8 @@ strike-free-calls t = (
   is-wide-reads.Learnt,
   strike-below t,
   strike.Post,
+  without-value-reads.Asked,
+  without-value-reads.Learnt,
   thin-reads.Asked,
   thin-reads.Learnt,
   fix-free-below t,
@@ -157,88 +171,91 @@ strike-free-calls t = (
 
 abbrev strike-other-calls : ℕ → strike-other-lts.Claims
 strike-other-calls t = (
-  has-value-reads.Asked,
-  has-value-reads.Learnt,
-  without-value-reads.Asked,
-  without-value-reads.Learnt,
   lowest-reads.Asked,
   lowest-reads.Learnt,
   strike-below t,
   strike.Post,
+  has-value-reads.Asked,
+  has-value-reads.Learnt,
 )
 
 abbrev fix-Inv-loop : fix-lts.InvT-loop
-fix-Inv-loop masks₀ cells₀ trail₀ n k top slot v h₀ masks cells trail h =
-    FixInv n k slot v masks₀ cells₀ trail₀ h₀ masks cells trail h
+fix-Inv-loop masks₀ cells₀ trail₀ n k top slot v h₀ rest₀ masks cells trail h rest =
+    FixInv n k slot v masks₀ cells₀ trail₀ h₀ masks cells trail h rest
 
 abbrev fix-μ-loop : fix-lts.MeasureT-loop
-fix-μ-loop masks₀ cells₀ trail₀ n k top slot v h₀ masks cells trail h = total masks
+fix-μ-loop masks₀ cells₀ trail₀ n k top slot v h₀ rest₀ masks cells trail h rest = total masks
+
+-- several other values are left
+fix-many : (t : ℕ) (c : fix-lts.Then1 (fix-calls t) (fix-at t) fix.Post fix-Inv-loop fix-μ-loop) → 1 < ones (c .before .before .loop .rest)
+fix-many t c = omega (arith, c .before .count .ensures, c .if1 .taken)
+
+-- the one that is struck
+fix-other : (t : ℕ) (c : fix-lts.After-less (fix-calls t) (fix-at t) fix.Post fix-Inv-loop fix-μ-loop) → Other (c .before .before .before .before
+    .loop .masks) (c .before .before .before .before .before .before .before .before .before .before .args .slot) (c .before .before .before .before
+    .before .before .before .before .before .before .args .v) (c .before .lowest .result)
+fix-other t c =
+    other-of _ _ _ _ (others-are _ _ (c .before .before .before .before .loop .inv .others) (fix-many t (c .before .before))) (c .before .lowest
+    .ensures .1 .has)
+
+fix-other-values-requires : (t : ℕ) → fix-lts.Need-other-values-requires (fix-calls t) (fix-at t) fix.Post fix-Inv-loop fix-μ-loop
+fix-other-values-requires t c κs =
+    let ready = c .before .before .before .before .pre .1 in
+    (ready-slot ready, omega (arith, ready-value ready))
 
 fix-loop-holds : (t : ℕ) → fix-lts.Need-loop-holds (fix-calls t) (fix-at t) fix.Post fix-Inv-loop fix-μ-loop
-fix-loop-holds t c = record { done = filtered-refl _ _ _ _ tt }
+fix-loop-holds t c = record { done = filtered-refl _ _ _ _ tt; others = c .other-values .ensures }
 
-fix-is-wide-requires : (t : ℕ) → fix-lts.Need-is-wide-requires (fix-calls t) (fix-at t) fix.Post fix-Inv-loop fix-μ-loop
-fix-is-wide-requires t c κs =
-    let ready = c .before .before .before .before .before .pre .1 in
-    omega (arith, c .before .loop .inv .done .moved .within .len, ready .slot-in, ready .world .slots)
-
-fix-without-value-requires : (t : ℕ) → fix-lts.Need-without-value-requires (fix-calls t) (fix-at t) fix.Post fix-Inv-loop fix-μ-loop
-fix-without-value-requires t c κs =
-    let ready = c .before .before .before .before .before .before .before .before .pre .1 in (
-      omega (arith, c .before .before .before .before .loop .inv .done .moved .within .len, ready .slot-in, ready .world .slots),
-      omega (
-        arith,
-        ready
-            .value-in,
-        ready .world .values-fit,
-      ),
-    )
+fix-count-requires : (t : ℕ) → fix-lts.Need-count-requires (fix-calls t) (fix-at t) fix.Post fix-Inv-loop fix-μ-loop
+fix-count-requires t c κs = search needs
 
 fix-lowest-requires : (t : ℕ) → fix-lts.Need-lowest-requires (fix-calls t) (fix-at t) fix.Post fix-Inv-loop fix-μ-loop
-fix-lowest-requires t c κs =
-    wide-other _ _ (ltb-true 2 _ (sym (c .before .before .before .is-wide .ensures) ∙ c .before .before .if1 .taken)) (c .without-value .ensures)
+fix-lowest-requires t c κs = others-some _ _ (c .before .before .loop .inv .others) (fix-many t c)
+
+fix-less-requires : (t : ℕ) → fix-lts.Need-less-requires (fix-calls t) (fix-at t) fix.Post fix-Inv-loop fix-μ-loop
+fix-less-requires t c κs = (omega (arith, c .lowest .ensures .0), c .lowest .ensures .1 .has)
+
+fix-with-requires : (t : ℕ) → fix-lts.Need-with-requires (fix-calls t) (fix-at t) fix.Post fix-Inv-loop fix-μ-loop
+fix-with-requires t c κs =
+    let ready = c .before .before .before .before .before .before .before .before .before .before .pre .1 in (
+      omega (arith, ready-value ready),
+      less-lacks _ _ (c .before .before .before .before .loop .inv .others) (fix-many t (c .before .before)) _ (c .before .lowest .ensures .1 .has)
+          (c .less .ensures),
+    )
 
 fix-thin-requires : (t : ℕ) → fix-lts.Need-thin-requires (fix-calls t) (fix-at t) fix.Post fix-Inv-loop fix-μ-loop
 fix-thin-requires t c κs =
-    let lowest = c .before .before .before .lowest in
-    let args = c .before .before .before .before .before .before .before .before .before .before .before .before .before .args in
-    let loop = c .before .before .before .before .before .before .before .before .before .loop in
-    let done = loop .inv .done in
-    let other = other-of (loop .masks) (args .slot) (args .v) (lowest .result) (c .before .before .before .before .without-value .ensures) (lowest
-    .ensures .1 .has) in
-    let pre = c .before .before .before .before .before .before .before .before .before .before .before .before .before .pre in
-    let world = world-moved (pre .1 .world) (done .moved) in (
+    let others = c .before .before .before .before .before .before .before .before .loop .inv .others in
+    let many = fix-many t (c .before .before .before .before .before .before) in
+    let other = fix-other t (c .before .before .before .before) in
+    let lowest = c .before .before .before .before .before .lowest in
+    let less = c .before .before .before .before .less in
+    let pre = c .before .before .before .before .before .before .before .before .before .before .before .before .before .before .pre in
+    let world = world-moved (pre .1 .world) (c .before .before .before .before .before .before .before .before .loop .inv .done .moved) in (
       record { world = world; slot-in = pre .1 .slot-in; value-in = other-value other world },
       other-has other,
-      ltb-true 2 _ (sym (c .before .before .before .before .before .before .before .is-wide .ensures) ∙ c .before .before .before .before .before
-          .before .if1 .taken),
+      others-wide _ _ others many,
+      c .before .before .before .with .ensures ∙ less-with _ _ others many _ (lowest .ensures .1 .has) (less .ensures),
     )
 
 fix-returns : (t : ℕ) → fix-lts.Need-returns (fix-calls t) (fix-at t) fix.Post fix-Inv-loop fix-μ-loop
 fix-returns t c =
-    let lowest = c .before .before .before .before .before .before .before .before .before .before .before .lowest in
-    let args = c .before .before .before .before .before .before .before .before .before .before .before .before .before .before .before .before
-    .before .before .before .before .before .args in
     let loop = c .before .before .before .before .before .before .before .before .before .before .before .before .before .before .before .before
-    .before .loop in
-    let done = loop .inv .done in
-    let other = other-of (loop .masks) (args .slot) (args .v) (lowest .result) (c .before .before .before .before .before .before .before .before
-    .before .before .before .before .without-value .ensures) (lowest .ensures .1 .has) in
-    filtered-more done (strike-contradicted {G = λ (M : List ℕ). Unit {0}} (thinned-clash _ _ _ _ _ (loop .h) _ _ _ _ _ _ _ (c .before .before
-    .before .before .before .before .before .thin .ensures) (c .if2 .taken))) (other-cut other) (λ no. absurd no)
+    .loop in
+    let other = fix-other t (c .before .before .before .before .before .before .before .before .before .before .before .before) in
+    filtered-more (loop .inv .done) (strike-contradicted {G = λ (M : List ℕ). Unit {0}} (thinned-clash _ _ _ _ _ (loop .h) _ _ _ _ _ _ _ (c .before
+    .before .before .before .before .before .before .thin .ensures) (c .if2 .taken))) (other-cut other) (λ no. absurd no)
 
 fix-add-h : (t : ℕ) → fix-lts.Need-add-h (fix-calls t) (fix-at t) fix.Post fix-Inv-loop fix-μ-loop
 fix-add-h t c =
-    let lowest = c .before .before .before .before .before .before .before .before .before .before .before .lowest in
     let args = c .before .before .before .before .before .before .before .before .before .before .before .before .before .before .before .before
-    .before .before .before .before .before .args in
+    .before .before .before .before .before .before .args in
     let loop = c .before .before .before .before .before .before .before .before .before .before .before .before .before .before .before .before
-    .before .loop in
+    .loop in
     let done = loop .inv .done in
-    let other = other-of (loop .masks) (args .slot) (args .v) (lowest .result) (c .before .before .before .before .before .before .before .before
-    .before .before .before .before .without-value .ensures) (lowest .ensures .1 .has) in
+    let other = fix-other t (c .before .before .before .before .before .before .before .before .before .before .before .before) in
     let pre = c .before .before .before .before .before .before .before .before .before .before .before .before .before .before .before .before
-    .before .before .before .before .before .pre in
+    .before .before .before .before .before .before .pre in
     let world = world-moved (pre .1 .world) (done .moved) in
     let room = ready-room (record { world = world; slot-in = pre .1 .slot-in; value-in = other-value other world }) (other-has other) in
     let size : length (loop .trail) ≡ length (args .trail .now) = done .moved .trailed .size in
@@ -247,44 +264,42 @@ fix-add-h t c =
       room,
       size,
       c .before .before .before .before .before .before .before .before .before .before .before .before .before .before
-          .before .before .before .before .before .before .before .good,
+          .before .before .before .before .before .before .before .before .good,
     )
 
 fix-loop-less : (t : ℕ) → fix-lts.Need-loop-less (fix-calls t) (fix-at t) fix.Post fix-Inv-loop fix-μ-loop
 fix-loop-less t c =
     let loop = c .before .before .before .before .before .before .before .before .before .before .before .before .before .before .before .before
-    .before .before .before .loop in
+    .before .before .loop in
     let removed = thinned-made _ _ _ _ _ (loop .h) _ _ _ _ _ _ _ (c .before .before .before .before .before .before .before .before .before .thin
     .ensures) (c .before .before .if2 .left) in
     omega (arith, removed .moved .height)
 
 fix-loop-again : (t : ℕ) → fix-lts.Need-loop-again (fix-calls t) (fix-at t) fix.Post fix-Inv-loop fix-μ-loop
 fix-loop-again t c =
-    let lowest = c .before .before .before .before .before .before .before .before .before .before .before .before .before .lowest in
-    let args = c .before .before .before .before .before .before .before .before .before .before .before .before .before .before .before .before
-    .before .before .before .before .before .before .before .args in
     let loop = c .before .before .before .before .before .before .before .before .before .before .before .before .before .before .before .before
-    .before .before .before .loop in
-    let done = loop .inv .done in
-    let other = other-of (loop .masks) (args .slot) (args .v) (lowest .result) (c .before .before .before .before .before .before .before .before
-    .before .before .before .before .before .before .without-value .ensures) (lowest .ensures .1 .has) in
+    .before .before .loop in
+    let other = fix-other t (c .before .before .before .before .before .before .before .before .before .before .before .before .before .before) in
+    let lowest = c .before .before .before .before .before .before .before .before .before .before .before .before .before .before .before .lowest in
+    let less = c .before .before .before .before .before .before .before .before .before .before .before .before .before .before .less in
+    let many = fix-many t (c .before .before .before .before .before .before .before .before .before .before .before .before .before .before .before
+    .before) in
     let removed = thinned-made _ _ _ _ _ (loop .h) _ _ _ _ _ _ _ (c .before .before .before .before .before .before .before .before .before .thin
     .ensures) (c .before .before .if2 .left) in
-    record { done = filtered-more done (thin-quiet removed (c .if3 .taken)) (other-cut other) (λ live before cut. tt) }
+    record {
+      done = filtered-more (loop .inv .done) (thin-quiet removed (c .if3 .taken)) (other-cut other) (λ live before cut. tt);
+      others = others-less _ _ (loop .inv .others) many _ (lowest .ensures .1 .has) (less .ensures) (removed-left removed (other-has other));
+    }
 
 fix-fix-free-requires : (t : ℕ) → fix-lts.Need-fix-free-requires (fix-calls t) (fix-at t) fix.Post fix-Inv-loop fix-μ-loop
 fix-fix-free-requires t c κs =
-    let lowest = c .before .before .before .before .before .before .before .before .before .before .before .before .before .before .before .before
-    .lowest in
-    let args = c .before .before .before .before .before .before .before .before .before .before .before .before .before .before .before .before
-    .before .before .before .before .before .before .before .before .before .before .args in
     let loop = c .before .before .before .before .before .before .before .before .before .before .before .before .before .before .before .before
-    .before .before .before .before .before .before .loop in
+    .before .before .before .before .before .loop in
+    let other = fix-other t (c .before .before .before .before .before .before .before .before .before .before .before .before .before .before
+    .before .before .before) in
     let done = loop .inv .done in
-    let other = other-of (loop .masks) (args .slot) (args .v) (lowest .result) (c .before .before .before .before .before .before .before .before
-    .before .before .before .before .before .before .before .before .before .without-value .ensures) (lowest .ensures .1 .has) in
     let pre = c .before .before .before .before .before .before .before .before .before .before .before .before .before .before .before .before
-    .before .before .before .before .before .before .before .before .before .before .pre in
+    .before .before .before .before .before .before .before .before .before .before .before .pre in
     let world = world-moved (pre .1 .world) (done .moved) in
     let removed = thinned-made _ _ _ _ _ (loop .h) _ _ _ _ _ _ _ (c .before .before .before .before .before .before .before .before .before .before
     .before .before .thin .ensures) (c .before .before .before .before .before .if2 .left) in (
@@ -295,75 +310,87 @@ fix-fix-free-requires t c κs =
 fix-enum-known-x : (t : ℕ) → fix-lts.Need-enum-known-x (fix-calls t) (fix-at t) fix.Post fix-Inv-loop fix-μ-loop
 fix-enum-known-x t c = search needs
 
-fix-loop-less-2 : (t : ℕ) → fix-lts.Need-loop-less-2 (fix-calls t) (fix-at t) fix.Post fix-Inv-loop fix-μ-loop
-fix-loop-less-2 t c =
-    let fix-free = c .before .before .before .before .before .before .before .before .before .fix-free in
-    let loop = c .before .before .before .before .before .before .before .before .before .before .before .before .before .before .before .before
-    .before .before .before .before .before .before .before .before .before .before .before .before .before .before .before .before .loop in
-    let removed = thinned-made _ _ _ _ _ (loop .h) _ _ _ _ _ _ _ (c .before .before .before .before .before .before .before .before .before .before
-    .before .before .before .before .before .before .before .before .before .before .before .before .thin .ensures) (c .before .before .before
-    .before .before .before .before .before .before .before .before .before .before .before .before .if2 .left) in
-    omega (arith, removed .moved .height, total-less (fix-free .ensures .moved .within))
-
-fix-loop-again-2 : (t : ℕ) → fix-lts.Need-loop-again-2 (fix-calls t) (fix-at t) fix.Post fix-Inv-loop fix-μ-loop
-fix-loop-again-2 t c =
-    let lowest = c .before .before .before .before .before .before .before .before .before .before .before .before .before .before .before .before
-    .before .before .before .before .before .before .before .before .before .before .lowest in
-    let args = c .before .before .before .before .before .before .before .before .before .before .before .before .before .before .before .before
-    .before .before .before .before .before .before .before .before .before .before .before .before .before .before .before .before .before .before
-    .before .before .args in
-    let loop = c .before .before .before .before .before .before .before .before .before .before .before .before .before .before .before .before
-    .before .before .before .before .before .before .before .before .before .before .before .before .before .before .before .before .loop in
-    let done = loop .inv .done in
-    let other = other-of (loop .masks) (args .slot) (args .v) (lowest .result) (c .before .before .before .before .before .before .before .before
-    .before .before .before .before .before .before .before .before .before .before .before .before .before .before .before .before .before .before
-    .before .without-value .ensures) (lowest .ensures .1 .has) in
-    let removed = thinned-made _ _ _ _ _ (loop .h) _ _ _ _ _ _ _ (c .before .before .before .before .before .before .before .before .before .before
-    .before .before .before .before .before .before .before .before .before .before .before .before .thin .ensures) (c .before .before .before
-    .before .before .before .before .before .before .before .before .before .before .before .before .if2 .left) in
-    record {
-      done = filtered-more done (filtered-at (c .before .x .given .1) (thin-followed removed (c .before .before .before .before .before
-          .before .before .before .before .fix-free .ensures))) (other-cut other) (λ live before cut. tt);
-    }
-
 fix-enum-known-x-2 : (t : ℕ) → fix-lts.Need-enum-known-x-2 (fix-calls t) (fix-at t) fix.Post fix-Inv-loop fix-μ-loop
 fix-enum-known-x-2 t c = search needs
 
 fix-returns-2 : (t : ℕ) → fix-lts.Need-returns-2 (fix-calls t) (fix-at t) fix.Post fix-Inv-loop fix-μ-loop
 fix-returns-2 t c =
-    let lowest = c .before .before .before .before .before .before .before .before .before .before .before .before .before .before .before .before
-    .before .before .before .before .before .before .before .before .before .before .lowest in
-    let args = c .before .before .before .before .before .before .before .before .before .before .before .before .before .before .before .before
-    .before .before .before .before .before .before .before .before .before .before .before .before .before .before .before .before .before .before
-    .before .before .args in
     let loop = c .before .before .before .before .before .before .before .before .before .before .before .before .before .before .before .before
-    .before .before .before .before .before .before .before .before .before .before .before .before .before .before .before .before .loop in
-    let done = loop .inv .done in
-    let other = other-of (loop .masks) (args .slot) (args .v) (lowest .result) (c .before .before .before .before .before .before .before .before
-    .before .before .before .before .before .before .before .before .before .before .before .before .before .before .before .before .before .before
-    .before .without-value .ensures) (lowest .ensures .1 .has) in
+    .before .before .before .before .before .before .before .before .before .before .before .before .before .before .before .loop in
+    let other = fix-other t (c .before .before .before .before .before .before .before .before .before .before .before .before .before .before
+    .before .before .before .before .before .before .before .before .before .before .before .before .before) in
     let removed = thinned-made _ _ _ _ _ (loop .h) _ _ _ _ _ _ _ (c .before .before .before .before .before .before .before .before .before .before
     .before .before .before .before .before .before .before .before .before .before .before .before .thin .ensures) (c .before .before .before
     .before .before .before .before .before .before .before .before .before .before .before .before .if2 .left) in
-    filtered-more done (filtered-at (c .before .x2 .given .1) (thin-followed removed (c .before .before .before .before .before .before .before
-    .before .before .fix-free .ensures))) (other-cut other) (λ no. absurd no)
+    filtered-more (loop .inv .done) (filtered-at (c .before .x2 .given .1) (thin-followed removed (c .before .before .before .before .before .before
+    .before .before .before .fix-free .ensures))) (other-cut other) (λ no. absurd no)
+
+fix-other-values-requires-2 : (t : ℕ) → fix-lts.Need-other-values-requires-2 (fix-calls t) (fix-at t) fix.Post fix-Inv-loop fix-μ-loop
+fix-other-values-requires-2 t c κs =
+    let loop = c .before .before .before .before .before .before .before .before .before .before .before .before .before .before .before .before
+    .before .before .before .before .before .before .before .before .before .before .before .before .before .before .before .before .loop in
+    let ready = c .before .before .before .before .before .before .before .before .before .before .before .before .before .before .before .before
+    .before .before .before .before .before .before .before .before .before .before .before .before .before .before .before .before .before .before
+    .before .before .before .before .pre .1 in
+    let removed = thinned-made _ _ _ _ _ (loop .h) _ _ _ _ _ _ _ (c .before .before .before .before .before .before .before .before .before .before
+    .before .before .before .before .before .before .before .before .before .before .before .before .before .thin .ensures) (c .before .before
+    .before .before .before .before .before .before .before .before .before .before .before .before .before .before .if2 .left) in (
+      omega (
+        arith,
+        c .before .before .before .before .before .before .before .before .before .before .fix-free .ensures .moved .within .len,
+        removed
+            .moved .within .len,
+        loop .inv .done .moved .within .len,
+        ready-slot ready,
+      ),
+      omega (arith, ready-value ready),
+    )
+
+fix-loop-less-2 : (t : ℕ) → fix-lts.Need-loop-less-2 (fix-calls t) (fix-at t) fix.Post fix-Inv-loop fix-μ-loop
+fix-loop-less-2 t c =
+    let loop = c .before .before .before .before .before .before .before .before .before .before .before .before .before .before .before .before
+    .before .before .before .before .before .before .before .before .before .before .before .before .before .before .before .before .before .loop in
+    let removed = thinned-made _ _ _ _ _ (loop .h) _ _ _ _ _ _ _ (c .before .before .before .before .before .before .before .before .before .before
+    .before .before .before .before .before .before .before .before .before .before .before .before .before .before .thin .ensures) (c .before
+    .before .before .before .before .before .before .before .before .before .before .before .before .before .before .before .before .if2 .left) in
+    omega (
+      arith,
+      removed .moved .height,
+      total-less (c .before .before .before .before .before .before .before .before .before .before .before
+          .fix-free .ensures .moved .within),
+    )
+
+fix-loop-again-2 : (t : ℕ) → fix-lts.Need-loop-again-2 (fix-calls t) (fix-at t) fix.Post fix-Inv-loop fix-μ-loop
+fix-loop-again-2 t c =
+    let loop = c .before .before .before .before .before .before .before .before .before .before .before .before .before .before .before .before
+    .before .before .before .before .before .before .before .before .before .before .before .before .before .before .before .before .before .loop in
+    let other = fix-other t (c .before .before .before .before .before .before .before .before .before .before .before .before .before .before
+    .before .before .before .before .before .before .before .before .before .before .before .before .before .before .before) in
+    let removed = thinned-made _ _ _ _ _ (loop .h) _ _ _ _ _ _ _ (c .before .before .before .before .before .before .before .before .before .before
+    .before .before .before .before .before .before .before .before .before .before .before .before .before .before .thin .ensures) (c .before
+    .before .before .before .before .before .before .before .before .before .before .before .before .before .before .before .before .if2 .left) in
+    record {
+      done = filtered-more (loop .inv .done) (filtered-at (c .before .before .before .x .given .1) (thin-followed removed (c .before .before .before
+          .before .before .before .before .before .before .before .before .fix-free .ensures))) (other-cut other) (λ live before cut. tt);
+      others = c .other-values2 .ensures;
+    }
 
 fix-strike-other-requires : (t : ℕ) → fix-lts.Need-strike-other-requires (fix-calls t) (fix-at t) fix.Post fix-Inv-loop fix-μ-loop
 fix-strike-other-requires t c κs =
-    let done = c .before .before .before .before .before .before .loop .inv .done in
-    let pre = c .before .before .before .before .before .before .before .before .before .before .pre in
-    let world = world-moved (pre .1 .world) (done .moved) in (
-      omega (arith, total-less (done .moved .within), pre .0),
+    let inv = c .before .before .before .before .before .loop .inv in
+    let pre = c .before .before .before .before .before .before .before .before .before .before .before .pre in
+    let world = world-moved (pre .1 .world) (inv .done .moved) in (
+      omega (arith, total-less (inv .done .moved .within), pre .0),
       (
         record { world = world; slot-in = pre .1 .slot-in; value-in = pre .1 .value-in },
-        ltb-false 2 _ (sym (c .before .before .before .before .is-wide .ensures) ∙ c .before .before .before .if1 .left),
+        inv .others,
+        omega (arith, c .before .before .before .before .count .ensures, c .before .before .before .if1 .left),
       ),
     )
 
 fix-returns-3 : (t : ℕ) → fix-lts.Need-returns-3 (fix-calls t) (fix-at t) fix.Post fix-Inv-loop fix-μ-loop
-fix-returns-3 t c =
-    filtered-more (c .before .before .before .before .before .before .before .before .before .before .before .before .before .loop .inv .done) (c
-    .before .before .before .before .before .before .strike-other .ensures) (λ N cut. cut) (λ live before fixed. fixed)
+fix-returns-3 t c = filtered-more (c .before .before .before .before .before .before .before .before .before .before .before .before .loop .inv
+    .done) (c .before .before .before .before .before .before .strike-other .ensures) (λ N cut. cut) (λ live before fixed. fixed)
 
 fix-same-length : (t : ℕ) → fix-lts.Need-same-length (fix-calls t) (fix-at t) fix.Post fix-Inv-loop fix-μ-loop
 fix-same-length t c = fix-returns t c .moved .within .len
@@ -640,8 +667,10 @@ strike-add-t27 t c =
     omega (
       arith,
       ready-room (c .before .before .before .before .before .before .before .before .before .before .before .before .before .before
-          .before .before .before .before .before .before .before .pre .1) (eqb-true _ _ (sym (c .before .before .before .before .before .before .before
-          .before .before .before .before .before .before .before .before .before .has-value .ensures) ∙ not-false _ (c .before .before .before .before
+          .before .before .before .before .before .before .before .pre .1) (eqb-true _ _ (sym (c .before .before .before .before .before .before
+          .before
+          .before .before .before .before .before .before .before .before .before .has-value .ensures) ∙ not-false _ (c .before .before .before
+          .before
           .before .before .before .before .before .before .before .before .before .before .before .if1 .left))),
       c .before .before .before .before .before
           .before .before .before .before .before .before .before .before .before .before .before .before .before .before .before .before .fits,
@@ -661,8 +690,10 @@ strike-add-follow t c =
     omega (
       arith,
       ready-room (c .before .before .before .before .before .before .before .before .before .before .before .before .before .before
-          .before .before .before .before .before .before .before .before .before .pre .1) (eqb-true _ _ (sym (c .before .before .before .before .before
-          .before .before .before .before .before .before .before .before .before .before .before .before .before .has-value .ensures) ∙ not-false _ (c
+          .before .before .before .before .before .before .before .before .before .pre .1) (eqb-true _ _ (sym (c .before .before .before .before
+          .before
+          .before .before .before .before .before .before .before .before .before .before .before .before .before .has-value .ensures) ∙ not-false _
+          (c
           .before .before .before .before .before .before .before .before .before .before .before .before .before .before .before .before .before .if1
           .left))),
       c .before .before .before .before .before .before .before .before .before .before .before .before .before .before .before .before
@@ -783,8 +814,7 @@ strike-free-strike-requires t c κs =
         world = world-moved (pre .1 .world) (done .moved);
         slot-in = omega (
           arith,
-          c .before .before .before .before .before .before .before
-              .before .before .loop-test .taken,
+          c .before .before .before .before .before .before .before .before .before .loop-test .taken,
           pre .1 .end-in,
         );
         value-in = pre .1 .value-in;
@@ -821,10 +851,10 @@ strike-free-add-slot-2 : (t : ℕ) → strike-free-lts.Need-add-slot-2 (strike-f
 strike-free-add-slot-2 t c =
     omega (
       arith,
-      c .before .before .before .before .before .before .before .before .before .before .before .before .before .before .before .before
-          .before .before .before .loop-test .taken,
-      c .before .before .before .before .before .before .before .before .before .before .before .before
-          .before .before .before .before .before .before .before .before .before .before .before .before .fits .end,
+      c .before .before .before .before .before .before .before .before .before .before .before .before .before .before .before .before .before
+          .before .before .loop-test .taken,
+      c .before .before .before .before .before .before .before .before .before .before .before .before .before .before .before .before .before
+          .before .before .before .before .before .before .before .fits .end,
     )
 
 strike-free-loop-less-2 : (t : ℕ) → strike-free-lts.Need-loop-less-2 (strike-free-calls t) (strike-free-at t) strike-free.Post strike-free-Inv-loop
@@ -832,8 +862,8 @@ strike-free-loop-less-2 : (t : ℕ) → strike-free-lts.Need-loop-less-2 (strike
 strike-free-loop-less-2 t c =
     omega (
       arith,
-      c .before .before .before .before .before .before .before .before .before .before .before .before .before .before .before .before
-          .before .before .before .loop-test .taken,
+      c .before .before .before .before .before .before .before .before .before .before .before .before .before .before .before .before .before
+          .before .before .loop-test .taken,
     )
 
 strike-free-loop-again-2 : (t : ℕ) → strike-free-lts.Need-loop-again-2 (strike-free-calls t) (strike-free-at t) strike-free.Post strike-free-Inv-loop
@@ -858,100 +888,49 @@ strike-free-loop-again-2 t c =
           .ensures .moved .within));
     }
 
+strike-free-without-value-requires : (t : ℕ) → strike-free-lts.Need-without-value-requires (strike-free-calls t) (strike-free-at t) strike-free.Post
+    strike-free-Inv-loop strike-free-μ-loop
+strike-free-without-value-requires t c κs =
+    let pruning = c .before .before .before .before .before .before .before .before .before .before .before .before .pre .1 in (
+      omega (
+        arith,
+        c .before .before .before .before .before .before .before .loop-test .taken,
+        c .before .before .before .before .before .before
+            .before .before .loop .inv .done .moved .within .len,
+        pruning .end-in,
+        pruning .world .slots,
+      ),
+      omega (arith, pruning .value-in, pruning .world .values-fit),
+    )
+
 strike-free-thin-requires : (t : ℕ) → strike-free-lts.Need-thin-requires (strike-free-calls t) (strike-free-at t) strike-free.Post
     strike-free-Inv-loop strike-free-μ-loop
 strike-free-thin-requires t c κs =
-    let pre = c .before .before .before .before .before .before .before .before .before .before .before .before .before .before .pre in
-    let done = c .before .before .before .before .before .before .before .before .before .before .loop .inv .done in
-    let free = free-yes _ _ {r = c .before .before .before .before .before .before .before .is-free .result} (not-false _ (c .before .before .before
-    .before .before .before .if1 .left)) (c .before .before .before .before .before .before .before .is-free .ensures) in (
+    let pre = c .before .before .before .before .before .before .before .before .before .before .before .before .before .before .before .before .pre
+    in
+    let done = c .before .before .before .before .before .before .before .before .before .before .before .before .loop .inv .done in
+    let free = free-yes _ _ {r = c .before .before .before .before .before .before .before .before .before .is-free .result} (not-false _ (c .before
+    .before .before .before .before .before .before .before .if1 .left)) (c .before .before .before .before .before .before .before .before .before
+    .is-free .ensures) in (
       record {
         world = world-moved (pre .1 .world) (done .moved);
         slot-in = omega (
           arith,
-          c .before .before .before .before .before .before .before
-              .before .before .loop-test .taken,
-          pre .1 .end-in,
+          c .before .before .before .before .before .before .before .before .before .before .before .loop-test .taken,
+          pre .1
+              .end-in,
         );
         value-in = pre .1 .value-in;
       },
       free .0,
-      ltb-true 2 _ (sym (c .before .before .before .before .is-wide .ensures) ∙ not-false _ (c .before .before .before .if2 .left)),
+      ltb-true 2 _ (sym (c .before .before .before .before .before .before .is-wide .ensures) ∙ not-false _ (c .before .before .before .before
+          .before .if2 .left)),
+      c .before .before .before .without-value .ensures,
     )
 
 strike-free-returns-2 : (t : ℕ) → strike-free-lts.Need-returns-2 (strike-free-calls t) (strike-free-at t) strike-free.Post strike-free-Inv-loop
     strike-free-μ-loop
 strike-free-returns-2 t c =
-    let loop = c .before .before .before .before .before .before .before .before .before .before .before .before .before .before .before .before
-    .before .before .loop in
-    let args = c .before .before .before .before .before .before .before .before .before .before .before .before .before .before .before .before
-    .before .before .before .before .before .before .args in
-    let done = loop .inv .done in
-    let free = free-yes _ _ {r = c .before .before .before .before .before .before .before .before .before .before .before .before .before .before
-    .before .is-free .result} (not-false _ (c .before .before .before .before .before .before .before .before .before .before .before .before .before
-    .before .if1 .left)) (c .before .before .before .before .before .before .before .before .before .before .before .before .before .before .before
-    .is-free .ensures) in
-    let asks = free-concerned false (done .moved .within) (loop .slot) (args .v) (free .0) (free .1) in
-    filtered-more done (strike-contradicted {G = λ (M : List ℕ). Unit {0}} (thinned-clash _ _ _ _ _ (loop .h) _ _ _ _ _ _ _ (c .before .before
-    .before .before .before .before .before .thin .ensures) (c .if3 .taken))) (λ N cut. cut .each (loop .slot) (c .before .before .before .before
-    .before .before .before .before .before .before .before .before .before .before .before .before .before .loop-test .taken) asks) (λ no. absurd no)
-
-strike-free-add-h : (t : ℕ) → strike-free-lts.Need-add-h (strike-free-calls t) (strike-free-at t) strike-free.Post strike-free-Inv-loop
-    strike-free-μ-loop
-strike-free-add-h t c =
-    let pre = c .before .before .before .before .before .before .before .before .before .before .before .before .before .before .before .before
-    .before .before .before .before .before .before .pre in
-    let args = c .before .before .before .before .before .before .before .before .before .before .before .before .before .before .before .before
-    .before .before .before .before .before .before .args in
-    let loop = c .before .before .before .before .before .before .before .before .before .before .before .before .before .before .before .before
-    .before .before .loop in
-    let done = loop .inv .done in
-    let free = free-yes _ _ {r = c .before .before .before .before .before .before .before .before .before .before .before .before .before .before
-    .before .is-free .result} (not-false _ (c .before .before .before .before .before .before .before .before .before .before .before .before .before
-    .before .if1 .left)) (c .before .before .before .before .before .before .before .before .before .before .before .before .before .before .before
-    .is-free .ensures) in
-    let room = ready-room (record {
-      world = world-moved (pre .1 .world) (done .moved);
-      slot-in = omega (
-        arith,
-        c .before .before .before .before
-            .before .before .before .before .before .before .before .before .before .before .before .before .before .loop-test .taken,
-        pre .1 .end-in,
-      );
-      value-in = pre .1 .value-in;
-    }) (free .0) in
-    let size : length (loop .trail) ≡ length (args .trail .now) = done .moved .trailed .size in
-    omega (
-      arith,
-      room,
-      size,
-      c .before .before .before .before .before .before .before .before .before .before .before .before .before .before
-          .before .before .before .before .before .before .before .before .good,
-    )
-
-strike-free-add-slot-3 : (t : ℕ) → strike-free-lts.Need-add-slot-3 (strike-free-calls t) (strike-free-at t) strike-free.Post strike-free-Inv-loop
-    strike-free-μ-loop
-strike-free-add-slot-3 t c =
-    omega (
-      arith,
-      c .before .before .before .before .before .before .before .before .before .before .before .before .before .before .before .before
-          .before .before .before .loop-test .taken,
-      c .before .before .before .before .before .before .before .before .before .before .before .before
-          .before .before .before .before .before .before .before .before .before .before .before .before .fits .end,
-    )
-
-strike-free-loop-less-3 : (t : ℕ) → strike-free-lts.Need-loop-less-3 (strike-free-calls t) (strike-free-at t) strike-free.Post strike-free-Inv-loop
-    strike-free-μ-loop
-strike-free-loop-less-3 t c =
-    omega (
-      arith,
-      c .before .before .before .before .before .before .before .before .before .before .before .before .before .before .before .before
-          .before .before .before .loop-test .taken,
-    )
-
-strike-free-loop-again-3 : (t : ℕ) → strike-free-lts.Need-loop-again-3 (strike-free-calls t) (strike-free-at t) strike-free.Post strike-free-Inv-loop
-    strike-free-μ-loop
-strike-free-loop-again-3 t c =
     let loop = c .before .before .before .before .before .before .before .before .before .before .before .before .before .before .before .before
     .before .before .before .before .loop in
     let args = c .before .before .before .before .before .before .before .before .before .before .before .before .before .before .before .before
@@ -962,12 +941,83 @@ strike-free-loop-again-3 t c =
     .before .before .before .before .before .if1 .left)) (c .before .before .before .before .before .before .before .before .before .before .before
     .before .before .before .before .before .before .is-free .ensures) in
     let asks = free-concerned false (done .moved .within) (loop .slot) (args .v) (free .0) (free .1) in
+    filtered-more done (strike-contradicted {G = λ (M : List ℕ). Unit {0}} (thinned-clash _ _ _ _ _ (loop .h) _ _ _ _ _ _ _ (c .before .before
+    .before .before .before .before .before .thin .ensures) (c .if3 .taken))) (λ N cut. cut .each (loop .slot) (c .before .before .before .before
+    .before .before .before .before .before .before .before .before .before .before .before .before .before .before .before .loop-test .taken) asks)
+    (λ no. absurd no)
+
+strike-free-add-h : (t : ℕ) → strike-free-lts.Need-add-h (strike-free-calls t) (strike-free-at t) strike-free.Post strike-free-Inv-loop
+    strike-free-μ-loop
+strike-free-add-h t c =
+    let pre = c .before .before .before .before .before .before .before .before .before .before .before .before .before .before .before .before
+    .before .before .before .before .before .before .before .before .pre in
+    let args = c .before .before .before .before .before .before .before .before .before .before .before .before .before .before .before .before
+    .before .before .before .before .before .before .before .before .args in
+    let loop = c .before .before .before .before .before .before .before .before .before .before .before .before .before .before .before .before
+    .before .before .before .before .loop in
+    let done = loop .inv .done in
+    let free = free-yes _ _ {r = c .before .before .before .before .before .before .before .before .before .before .before .before .before .before
+    .before .before .before .is-free .result} (not-false _ (c .before .before .before .before .before .before .before .before .before .before .before
+    .before .before .before .before .before .if1 .left)) (c .before .before .before .before .before .before .before .before .before .before .before
+    .before .before .before .before .before .before .is-free .ensures) in
+    let room = ready-room (record {
+      world = world-moved (pre .1 .world) (done .moved);
+      slot-in = omega (
+        arith,
+        c .before .before .before .before .before .before .before .before .before .before .before .before .before .before .before .before .before
+            .before .before .loop-test .taken,
+        pre .1 .end-in,
+      );
+      value-in = pre .1 .value-in;
+    }) (free .0) in
+    let size : length (loop .trail) ≡ length (args .trail .now) = done .moved .trailed .size in
+    omega (
+      arith,
+      room,
+      size,
+      c .before .before .before .before .before .before .before .before .before .before .before .before .before .before .before .before .before
+          .before .before .before .before .before .before .before .good,
+    )
+
+strike-free-add-slot-3 : (t : ℕ) → strike-free-lts.Need-add-slot-3 (strike-free-calls t) (strike-free-at t) strike-free.Post strike-free-Inv-loop
+    strike-free-μ-loop
+strike-free-add-slot-3 t c =
+    omega (
+      arith,
+      c .before .before .before .before .before .before .before .before .before .before .before .before .before .before .before .before .before
+          .before .before .before .before .loop-test .taken,
+      c .before .before .before .before .before .before .before .before .before .before .before .before .before .before .before .before .before
+          .before .before .before .before .before .before .before .before .before .fits .end,
+    )
+
+strike-free-loop-less-3 : (t : ℕ) → strike-free-lts.Need-loop-less-3 (strike-free-calls t) (strike-free-at t) strike-free.Post strike-free-Inv-loop
+    strike-free-μ-loop
+strike-free-loop-less-3 t c =
+    omega (
+      arith,
+      c .before .before .before .before .before .before .before .before .before .before .before .before .before .before .before .before .before
+          .before .before .before .before .loop-test .taken,
+    )
+
+strike-free-loop-again-3 : (t : ℕ) → strike-free-lts.Need-loop-again-3 (strike-free-calls t) (strike-free-at t) strike-free.Post strike-free-Inv-loop
+    strike-free-μ-loop
+strike-free-loop-again-3 t c =
+    let loop = c .before .before .before .before .before .before .before .before .before .before .before .before .before .before .before .before
+    .before .before .before .before .before .before .loop in
+    let args = c .before .before .before .before .before .before .before .before .before .before .before .before .before .before .before .before
+    .before .before .before .before .before .before .before .before .before .before .args in
+    let done = loop .inv .done in
+    let free = free-yes _ _ {r = c .before .before .before .before .before .before .before .before .before .before .before .before .before .before
+    .before .before .before .before .before .is-free .result} (not-false _ (c .before .before .before .before .before .before .before .before .before
+    .before .before .before .before .before .before .before .before .before .if1 .left)) (c .before .before .before .before .before .before .before
+    .before .before .before .before .before .before .before .before .before .before .before .before .is-free .ensures) in
+    let asks = free-concerned false (done .moved .within) (loop .slot) (args .v) (free .0) (free .1) in
     let removed = thinned-made _ _ _ _ _ (loop .h) _ _ _ _ _ _ _ (c .before .before .before .before .before .before .before .before .before .thin
     .ensures) (c .before .before .if3 .left) in
     record {
       done = filtered-more done (thin-quiet removed (c .if4 .taken))
           (λ N cut. cut .each (loop .slot) (c .before .before .before .before .before .before .before .before .before .before .before .before .before
-          .before .before .before .before .before .before .loop-test .taken) asks)
+          .before .before .before .before .before .before .before .before .loop-test .taken) asks)
           (λ live. settled-cut false (args .v) (loop .slot) (removed .moved .within));
     }
 
@@ -975,10 +1025,10 @@ strike-free-fix-free-requires : (t : ℕ) → strike-free-lts.Need-fix-free-requ
     strike-free-Inv-loop strike-free-μ-loop
 strike-free-fix-free-requires t c κs =
     let loop = c .before .before .before .before .before .before .before .before .before .before .before .before .before .before .before .before
-    .before .before .before .before .before .before .before .loop in
+    .before .before .before .before .before .before .before .before .before .loop in
     let done = loop .inv .done in
     let pre = c .before .before .before .before .before .before .before .before .before .before .before .before .before .before .before .before
-    .before .before .before .before .before .before .before .before .before .before .before .pre in
+    .before .before .before .before .before .before .before .before .before .before .before .before .before .pre in
     let removed = thinned-made _ _ _ _ _ (loop .h) _ _ _ _ _ _ _ (c .before .before .before .before .before .before .before .before .before .before
     .before .before .thin .ensures) (c .before .before .before .before .before .if3 .left) in (
       omega (arith, removed .moved .height, total-less (done .moved .within), pre .0),
@@ -1001,17 +1051,19 @@ strike-free-returns-3 : (t : ℕ) → strike-free-lts.Need-returns-3 (strike-fre
     strike-free-μ-loop
 strike-free-returns-3 t c =
     let loop = c .before .before .before .before .before .before .before .before .before .before .before .before .before .before .before .before
-    .before .before .before .before .before .before .before .before .before .before .before .before .before .before .before .before .before .loop in
+    .before .before .before .before .before .before .before .before .before .before .before .before .before .before .before .before .before .before
+    .before .loop in
     let args = c .before .before .before .before .before .before .before .before .before .before .before .before .before .before .before .before
     .before .before .before .before .before .before .before .before .before .before .before .before .before .before .before .before .before .before
-    .before .before .before .args in
+    .before .before .before .before .before .args in
     let done = loop .inv .done in
     let free = free-yes _ _ {r = c .before .before .before .before .before .before .before .before .before .before .before .before .before .before
-    .before .before .before .before .before .before .before .before .before .before .before .before .before .before .before .before .is-free .result}
-    (not-false _ (c .before .before .before .before .before .before .before .before .before .before .before .before .before .before .before .before
-    .before .before .before .before .before .before .before .before .before .before .before .before .before .if1 .left)) (c .before .before .before
     .before .before .before .before .before .before .before .before .before .before .before .before .before .before .before .before .before .before
-    .before .before .before .before .before .before .before .before .before .is-free .ensures) in
+    .is-free .result}
+    (not-false _ (c .before .before .before .before .before .before .before .before .before .before .before .before .before .before .before .before
+    .before .before .before .before .before .before .before .before .before .before .before .before .before .before .before .if1 .left)) (c .before
+    .before .before .before .before .before .before .before .before .before .before .before .before .before .before .before .before .before .before
+    .before .before .before .before .before .before .before .before .before .before .before .before .before .is-free .ensures) in
     let asks = free-concerned false (done .moved .within) (loop .slot) (args .v) (free .0) (free .1) in
     let removed = thinned-made _ _ _ _ _ (loop .h) _ _ _ _ _ _ _ (c .before .before .before .before .before .before .before .before .before .before
     .before .before .before .before .before .before .before .before .before .before .before .before .thin .ensures) (c .before .before .before
@@ -1019,19 +1071,20 @@ strike-free-returns-3 t c =
     filtered-more done (filtered-at (c .before .x4 .given .1) (thin-followed removed (c .before .before .before .before .before .before .before
     .before .before .fix-free .ensures))) (λ N cut. cut .each (loop .slot) (c .before .before .before .before .before .before .before .before .before
     .before .before .before .before .before .before .before .before .before .before .before .before .before .before .before .before .before .before
-    .before .before .before .before .before .loop-test .taken) asks) (λ no. absurd no)
+    .before .before .before .before .before .before .before .loop-test .taken) asks) (λ no. absurd no)
 
 strike-free-add-slot-4 : (t : ℕ) → strike-free-lts.Need-add-slot-4 (strike-free-calls t) (strike-free-at t) strike-free.Post strike-free-Inv-loop
     strike-free-μ-loop
 strike-free-add-slot-4 t c =
     omega (
       arith,
-      c .before .before .before .before .before .before .before .before .before .before .before .before .before .before .before .before
-          .before .before .before .before .before .before .before .before .before .before .before .before .before .before .before .before .loop-test
+      c .before .before .before .before .before .before .before .before .before .before .before .before .before .before .before .before .before
+          .before .before .before .before .before .before .before .before .before .before .before .before .before .before .before .before .before
+          .loop-test
           .taken,
       c .before .before .before .before .before .before .before .before .before .before .before .before .before .before .before .before .before
           .before .before .before .before .before .before .before .before .before .before .before .before .before .before .before .before .before .before
-          .before .before .fits .end,
+          .before .before .before .before .fits .end,
     )
 
 strike-free-loop-less-4 : (t : ℕ) → strike-free-lts.Need-loop-less-4 (strike-free-calls t) (strike-free-at t) strike-free.Post strike-free-Inv-loop
@@ -1039,25 +1092,28 @@ strike-free-loop-less-4 : (t : ℕ) → strike-free-lts.Need-loop-less-4 (strike
 strike-free-loop-less-4 t c =
     omega (
       arith,
-      c .before .before .before .before .before .before .before .before .before .before .before .before .before .before .before .before
-          .before .before .before .before .before .before .before .before .before .before .before .before .before .before .before .before .loop-test .taken,
+      c .before .before .before .before .before .before .before .before .before .before .before .before .before .before .before .before .before
+          .before .before .before .before .before .before .before .before .before .before .before .before .before .before .before .before .before
+          .loop-test .taken,
     )
 
 strike-free-loop-again-4 : (t : ℕ) → strike-free-lts.Need-loop-again-4 (strike-free-calls t) (strike-free-at t) strike-free.Post strike-free-Inv-loop
     strike-free-μ-loop
 strike-free-loop-again-4 t c =
     let loop = c .before .before .before .before .before .before .before .before .before .before .before .before .before .before .before .before
-    .before .before .before .before .before .before .before .before .before .before .before .before .before .before .before .before .before .loop in
+    .before .before .before .before .before .before .before .before .before .before .before .before .before .before .before .before .before .before
+    .before .loop in
     let args = c .before .before .before .before .before .before .before .before .before .before .before .before .before .before .before .before
     .before .before .before .before .before .before .before .before .before .before .before .before .before .before .before .before .before .before
-    .before .before .before .args in
+    .before .before .before .before .before .args in
     let done = loop .inv .done in
     let free = free-yes _ _ {r = c .before .before .before .before .before .before .before .before .before .before .before .before .before .before
-    .before .before .before .before .before .before .before .before .before .before .before .before .before .before .before .before .is-free .result}
-    (not-false _ (c .before .before .before .before .before .before .before .before .before .before .before .before .before .before .before .before
-    .before .before .before .before .before .before .before .before .before .before .before .before .before .if1 .left)) (c .before .before .before
     .before .before .before .before .before .before .before .before .before .before .before .before .before .before .before .before .before .before
-    .before .before .before .before .before .before .before .before .before .is-free .ensures) in
+    .is-free .result}
+    (not-false _ (c .before .before .before .before .before .before .before .before .before .before .before .before .before .before .before .before
+    .before .before .before .before .before .before .before .before .before .before .before .before .before .before .before .if1 .left)) (c .before
+    .before .before .before .before .before .before .before .before .before .before .before .before .before .before .before .before .before .before
+    .before .before .before .before .before .before .before .before .before .before .before .before .before .is-free .ensures) in
     let asks = free-concerned false (done .moved .within) (loop .slot) (args .v) (free .0) (free .1) in
     let removed = thinned-made _ _ _ _ _ (loop .h) _ _ _ _ _ _ _ (c .before .before .before .before .before .before .before .before .before .before
     .before .before .before .before .before .before .before .before .before .before .before .before .thin .ensures) (c .before .before .before
@@ -1068,7 +1124,7 @@ strike-free-loop-again-4 t c =
       done = filtered-more done (followed)
           (λ N cut. cut .each (loop .slot) (c .before .before .before .before .before .before .before .before .before .before .before .before .before
           .before .before .before .before .before .before .before .before .before .before .before .before .before .before .before .before .before
-          .before .before .loop-test .taken) asks)
+          .before .before .before .before .loop-test .taken) asks)
           (λ live. settled-cut false (args .v) (loop .slot) (followed .moved .within));
     }
 
@@ -1125,84 +1181,79 @@ strike-free-same-length-12 : (t : ℕ) → strike-free-lts.Need-same-length-12 (
     strike-free-Inv-loop strike-free-μ-loop
 strike-free-same-length-12 t c = strike-free-returns-4 t c .moved .trailed .size
 
-strike-other-has-value-requires : (t : ℕ) → strike-other-lts.Need-has-value-requires (strike-other-calls t) (strike-other-at t) strike-other.Post
-strike-other-has-value-requires t c κs =
-    let ready = c .before .before .before .before .pre .1 .0 in
-    (ready-slot ready, ready-value ready)
+strike-other-has : (t : ℕ) (c : strike-other-lts.Then1 (strike-other-calls t) (strike-other-at t) strike-other.Post) → HasAt (c .before .before
+    .before .before .args .masks .now) (c .before .before .before .before .args .slot) (c .before .before .before .before .args .v)
+strike-other-has t c = c .before .before .before .before .pre .1 .1 .has (omega (arith, c .if1 .taken))
 
-strike-other-returns : (t : ℕ) → strike-other-lts.Need-returns (strike-other-calls t) (strike-other-at t) strike-other.Post
-strike-other-returns t c =
-    fix-absent _ _ _ _ _ _ (eqb-false _ _ (sym (c .before .has-value .ensures) ∙ not-true _ (c .if1 .taken)))
-
-strike-other-without-value-requires : (t : ℕ) → strike-other-lts.Need-without-value-requires (strike-other-calls t) (strike-other-at t)
-    strike-other.Post
-strike-other-without-value-requires t c κs =
-    let ready = c .before .before .before .before .before .before .before .pre .1 .0 in
-    (ready-slot ready, omega (arith, ready-value ready))
-
-strike-other-returns-2 : (t : ℕ) → strike-other-lts.Need-returns-2 (strike-other-calls t) (strike-other-at t) strike-other.Post
-strike-other-returns-2 t c =
-    let args = c .before .before .before .before .before .before .before .before .before .args in
-    let has = eqb-true _ _ (sym (c .before .before .before .before .has-value .ensures) ∙ not-false _ (c .before .before .before .if1 .left)) in
-    filtered-refl _ _ _ _ (other-none (args .masks .now) (args .slot) (args .v) has (c .before .without-value .ensures) (c .if2 .taken))
+-- the value that is struck
+strike-other-other : (t : ℕ) (c : strike-other-lts.After-lowest (strike-other-calls t) (strike-other-at t) strike-other.Post)
+    → Other (c .before .before .before .before .before .before .before .before .args .masks .now) (c .before .before .before .before .before .before
+    .before .before .args .slot) (c .before .before .before .before .before .before .before .before .args .v) (c .lowest .result)
+strike-other-other t c =
+    other-of _ _ _ _ (c .before .before .before .before .before .before .before .before .pre .1 .1 .besides (strike-other-has t (c .before .before
+    .before .before))) (c .lowest .ensures .1 .has)
 
 strike-other-lowest-requires : (t : ℕ) → strike-other-lts.Need-lowest-requires (strike-other-calls t) (strike-other-at t) strike-other.Post
-strike-other-lowest-requires t c κs = omega (arith, c .before .before .before .if2 .left)
+strike-other-lowest-requires t c κs = omega (arith, c .before .before .before .if1 .taken)
 
 strike-other-strike-requires : (t : ℕ) → strike-other-lts.Need-strike-requires (strike-other-calls t) (strike-other-at t) strike-other.Post
 strike-other-strike-requires t c κs =
-    let pre = c .before .before .before .before .before .before .before .before .before .before .before .before .before .pre in
-    let args = c .before .before .before .before .before .before .before .before .before .before .before .before .before .args in
-    let ready = pre .1 .0 in
-    let lowest = c .lowest in
-    let other = other-of (args .masks .now) (args .slot) (args .v) (lowest .result) (c .before .before .before .before .before .without-value
-    .ensures) (lowest .ensures .1 .has) in (
+    let pre = c .before .before .before .before .before .before .before .before .pre in
+    let ready = pre .1 .0 in (
       omega (arith, pre .0),
-      record { world = ready .world; slot-in = ready .slot-in; value-in = other-value other (ready .world) },
+      record { world = ready .world; slot-in = ready .slot-in; value-in = other-value (strike-other-other t c) (ready .world) },
     )
+
+strike-other-returns : (t : ℕ) → strike-other-lts.Need-returns (strike-other-calls t) (strike-other-at t) strike-other.Post
+strike-other-returns t c =
+    let pre = c .before .before .before .before .before .before .before .before .before .before .before .before .before .before .before .pre .1 in
+    let has = strike-other-has t (c .before .before .before .before .before .before .before .before .before .before .before) in
+    let other = strike-other-other t (c .before .before .before .before .before .before .before) in
+    let moved = c .before .before .before .before .before .before .strike .ensures .moved in
+    filtered-asks (other-cut other)
+    (filtered-goal (c .before .before .before .before .before .before .strike .ensures)
+    (λ live.
+    other-last other has (others-few _ _ (pre .1) (pre .2) has) (ready-slot (pre .0)) (moved .within) (moved .alive (pre .0 .world .alive))))
+
+strike-other-has-value-requires : (t : ℕ) → strike-other-lts.Need-has-value-requires (strike-other-calls t) (strike-other-at t) strike-other.Post
+strike-other-has-value-requires t c κs =
+    let ready = c .before .before .before .before .before .pre .1 .0 in
+    (ready-slot ready, omega (arith, ready-value ready))
+
+strike-other-returns-2 : (t : ℕ) → strike-other-lts.Need-returns-2 (strike-other-calls t) (strike-other-at t) strike-other.Post
+strike-other-returns-2 t c = fix-absent _ _ _ _ _ _ (eqb-false _ _ (sym (c .before .has-value .ensures) ∙ not-true _ (c .if2 .taken)))
 
 strike-other-returns-3 : (t : ℕ) → strike-other-lts.Need-returns-3 (strike-other-calls t) (strike-other-at t) strike-other.Post
 strike-other-returns-3 t c =
-    let pre = c .before .before .before .before .before .before .before .before .before .before .before .before .before .before .before .before
-    .before .before .before .before .pre in
-    let args = c .before .before .before .before .before .before .before .before .before .before .before .before .before .before .before .before
-    .before .before .before .before .args in
-    let ready = pre .1 .0 in
-    let lowest = c .before .before .before .before .before .before .before .lowest in
-    let other = other-of (args .masks .now) (args .slot) (args .v) (lowest .result) (c .before .before .before .before .before .before .before
-    .before .before .before .before .before .without-value .ensures) (lowest .ensures .1 .has) in
-    let has = eqb-true _ _ (sym (c .before .before .before .before .before .before .before .before .before .before .before .before .before .before
-    .before .has-value .ensures) ∙ not-false _ (c .before .before .before .before .before .before .before .before .before .before .before .before
-    .before .before .if1 .left)) in
-    let strike = c .before .before .before .before .before .before .strike in
-    filtered-asks (other-cut other)
-    (filtered-goal (strike .ensures)
-    (λ live.
-    other-last other has (pre .1 .1) (ready-slot ready) (strike .ensures .moved .within) (strike .ensures .moved .alive (ready .world .alive))))
+    let args = c .before .before .before .before .before .before .before .args in
+    let has = eqb-true _ _ (sym (c .before .has-value .ensures) ∙ not-false _ (c .if2 .left)) in
+    filtered-refl _ _ _ _ (other-none (args .masks .now) (args .slot) (args .v) has (c .before .before .before .before .before .before .before .pre
+    .1 .1 .besides has) (c .before .before .before .if1 .left))
 
 strike-other-same-length : (t : ℕ) → strike-other-lts.Need-same-length (strike-other-calls t) (strike-other-at t) strike-other.Post
-strike-other-same-length t c = search needs
+strike-other-same-length t c = strike-other-returns t c .moved .within .len
 
 strike-other-same-length-2 : (t : ℕ) → strike-other-lts.Need-same-length-2 (strike-other-calls t) (strike-other-at t) strike-other.Post
-strike-other-same-length-2 t c = search needs
+strike-other-same-length-2 t c = strike-other-returns t c .moved .cells-size
 
 strike-other-same-length-3 : (t : ℕ) → strike-other-lts.Need-same-length-3 (strike-other-calls t) (strike-other-at t) strike-other.Post
-strike-other-same-length-3 t c = strike-other-returns-3 t c .moved .within .len
+strike-other-same-length-3 t c = strike-other-returns t c .moved .trailed .size
 
 strike-other-same-length-4 : (t : ℕ) → strike-other-lts.Need-same-length-4 (strike-other-calls t) (strike-other-at t) strike-other.Post
-strike-other-same-length-4 t c = strike-other-returns-3 t c .moved .cells-size
+strike-other-same-length-4 t c = search needs
 
 strike-other-same-length-5 : (t : ℕ) → strike-other-lts.Need-same-length-5 (strike-other-calls t) (strike-other-at t) strike-other.Post
-strike-other-same-length-5 t c = strike-other-returns-3 t c .moved .trailed .size
+strike-other-same-length-5 t c = search needs
 
 pub +fix+fix-free+follow+strike+strike-free+strike-other-spec : {M : Type 1} → statement M
 +fix+fix-free+follow+strike+strike-free+strike-other-spec =
     close μ-fix μ-fix-free μ-follow μ-strike μ-strike-free μ-strike-other
-    (λ t. fix-lts.spec (fix-calls t) (fix-at t) fix.Post fix-Inv-loop fix-μ-loop (fix-loop-holds t) (fix-is-wide-requires t)
-    (fix-without-value-requires t) (fix-lowest-requires t) (fix-thin-requires t) (fix-same-length t) (fix-same-length-2 t) (fix-same-length-3 t)
-    (fix-returns t) (fix-add-h t) (fix-loop-less t) (fix-loop-again t) (fix-fix-free-requires t) (fix-enum-known-x t) (fix-loop-less-2 t)
-    (fix-loop-again-2 t) (fix-enum-known-x-2 t) (fix-same-length-4 t) (fix-same-length-5 t) (fix-same-length-6 t) (fix-returns-2 t)
-    (fix-strike-other-requires t) (fix-same-length-7 t) (fix-same-length-8 t) (fix-same-length-9 t) (fix-returns-3 t))
+    (λ t. fix-lts.spec (fix-calls t) (fix-at t) fix.Post fix-Inv-loop fix-μ-loop (fix-other-values-requires t) (fix-loop-holds t) (fix-count-requires
+    t) (fix-lowest-requires t) (fix-less-requires t) (fix-with-requires t) (fix-thin-requires t) (fix-same-length t) (fix-same-length-2 t)
+    (fix-same-length-3 t) (fix-returns t) (fix-add-h t) (fix-loop-less t) (fix-loop-again t) (fix-fix-free-requires t) (fix-enum-known-x t)
+    (fix-enum-known-x-2 t) (fix-same-length-4 t) (fix-same-length-5 t) (fix-same-length-6 t) (fix-returns-2 t) (fix-other-values-requires-2 t)
+    (fix-loop-less-2 t) (fix-loop-again-2 t) (fix-strike-other-requires t) (fix-same-length-7 t) (fix-same-length-8 t) (fix-same-length-9 t)
+    (fix-returns-3 t))
     (λ t. fix-free-lts.spec (fix-free-calls t) (fix-free-at t) fix-free.Post fix-free-Inv-loop fix-free-μ-loop (fix-free-loop-holds t)
     (fix-free-is-free-requires t) (fix-free-add-s t) (fix-free-loop-less t) (fix-free-loop-again t) (fix-free-fix-requires t) (fix-free-enum-known-x
     t) (fix-free-enum-known-x-2 t) (fix-free-same-length t) (fix-free-same-length-2 t) (fix-free-same-length-3 t) (fix-free-returns t)
@@ -1222,13 +1273,13 @@ pub +fix+fix-free+follow+strike+strike-free+strike-other-spec : {M : Type 1} →
     (strike-free-loop-holds t) (strike-free-is-free-requires t) (strike-free-add-slot t) (strike-free-loop-less t) (strike-free-loop-again t)
     (strike-free-is-wide-requires t) (strike-free-strike-requires t) (strike-free-enum-known-x t) (strike-free-enum-known-x-2 t)
     (strike-free-same-length t) (strike-free-same-length-2 t) (strike-free-same-length-3 t) (strike-free-returns t) (strike-free-add-slot-2 t)
-    (strike-free-loop-less-2 t) (strike-free-loop-again-2 t) (strike-free-thin-requires t) (strike-free-same-length-4 t) (strike-free-same-length-5
-    t) (strike-free-same-length-6 t) (strike-free-returns-2 t) (strike-free-add-h t) (strike-free-add-slot-3 t) (strike-free-loop-less-3 t)
-    (strike-free-loop-again-3 t) (strike-free-fix-free-requires t) (strike-free-enum-known-x-3 t) (strike-free-enum-known-x-4 t)
-    (strike-free-same-length-7 t) (strike-free-same-length-8 t) (strike-free-same-length-9 t) (strike-free-returns-3 t) (strike-free-add-slot-4 t)
-    (strike-free-loop-less-4 t) (strike-free-loop-again-4 t) (strike-free-same-length-10 t) (strike-free-same-length-11 t)
-    (strike-free-same-length-12 t) (strike-free-returns-4 t))
-    λ t. strike-other-lts.spec (strike-other-calls t) (strike-other-at t) strike-other.Post (strike-other-has-value-requires t)
-    (strike-other-same-length t) (strike-other-returns t) (strike-other-without-value-requires t) (strike-other-same-length-2 t)
-    (strike-other-returns-2 t) (strike-other-lowest-requires t) (strike-other-strike-requires t) (strike-other-same-length-3 t)
-    (strike-other-same-length-4 t) (strike-other-same-length-5 t) (strike-other-returns-3 t)
+    (strike-free-loop-less-2 t) (strike-free-loop-again-2 t) (strike-free-without-value-requires t) (strike-free-thin-requires t)
+    (strike-free-same-length-4 t) (strike-free-same-length-5 t) (strike-free-same-length-6 t) (strike-free-returns-2 t) (strike-free-add-h t)
+    (strike-free-add-slot-3 t) (strike-free-loop-less-3 t) (strike-free-loop-again-3 t) (strike-free-fix-free-requires t) (strike-free-enum-known-x-3
+    t) (strike-free-enum-known-x-4 t) (strike-free-same-length-7 t) (strike-free-same-length-8 t) (strike-free-same-length-9 t)
+    (strike-free-returns-3 t) (strike-free-add-slot-4 t) (strike-free-loop-less-4 t) (strike-free-loop-again-4 t) (strike-free-same-length-10 t)
+    (strike-free-same-length-11 t) (strike-free-same-length-12 t) (strike-free-returns-4 t))
+    λ t. strike-other-lts.spec (strike-other-calls t) (strike-other-at t) strike-other.Post (strike-other-lowest-requires t)
+    (strike-other-strike-requires t) (strike-other-same-length t) (strike-other-same-length-2 t) (strike-other-same-length-3 t) (strike-other-returns
+    t) (strike-other-has-value-requires t) (strike-other-same-length-4 t) (strike-other-returns-2 t) (strike-other-same-length-5 t)
+    (strike-other-returns-3 t)

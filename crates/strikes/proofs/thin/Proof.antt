@@ -22,19 +22,17 @@ same-length c = search needs
 returns : tie.Need-returns
 returns c = thin-barred (c .before .before .before .before .before .before .before .before .pre .0) (c .before .before .before .before .before .before .before .before .pre .1) _ (c .before .before .before .fall-row .ensures .1) _ _ (c .if1 .taken)
 
-take-out-requires : tie.Need-take-out-requires
-take-out-requires c κs =
-    let pre = c .before .before .before .before .before .before .before .before .before .pre in
-    (ready-slot (pre .0), omega (arith, ready-value (pre .0)), pre .1)
-
 push-requires : tie.Need-push-requires
 push-requires c κs =
-    let pre = c .before .before .before .before .before .before .before .before .before .before .before .before .before .pre in
+    let pre = c .before .before .before .before .before .before .before .before .before .pre in
     let ready = pre .0 in
-    let fall-row = c .before .before .before .before .before .before .before .before .fall-row in
-    let note = thin-note ready (pre .1) _ (fall-row .ensures .1) (pre .2) (c .before .before .before .before .before .if1 .left) (fall-row .ensures .0) in
-    let tag = thin-tag ready (pre .1) _ (fall-row .ensures .1) (pre .2) (c .before .before .before .before .before .if1 .left) (fall-row .ensures .0) in
+    let fall-row = c .before .before .before .before .fall-row in
+    let note = thin-note ready (pre .1) _ (fall-row .ensures .1) (pre .2) (c .before .if1 .left) (fall-row .ensures .0) in
+    let tag = thin-tag ready (pre .1) _ (fall-row .ensures .1) (pre .2) (c .before .if1 .left) (fall-row .ensures .0) in
     (ready-room ready (pre .1), ready-byte ready, ready-value ready, tag, omega (arith, note))
+
+store-requires : tie.Need-store-requires
+store-requires c κs = ready-slot (c .before .before .before .before .before .before .before .before .before .before .before .before .before .pre .0)
 
 same-length-2 : tie.Need-same-length-2
 same-length-2 c = search needs
@@ -50,7 +48,7 @@ returns-2 c =
     let pre = c .before .before .before .before .before .before .before .before .before .before .before .before .before .before .before .before .pre in
     let fall-row = c .before .before .before .before .before .before .before .before .before .before .before .fall-row in
     let if1 = c .before .before .before .before .before .before .before .before .if1 in
-    thin-made (pre .0) (pre .1) _ (fall-row .ensures .1) (pre .2) (if1 .left) (fall-row .ensures .0) (c .before .before .before .before .before .before .take-out .ensures) (c .before .before .push .ensures)
+    thin-made (pre .0) (pre .1) _ (fall-row .ensures .1) (pre .2) (if1 .left) (fall-row .ensures .0) (c .before .before .store .ensures) (pre .3) (c .before .before .before .before .before .before .push .ensures)
 
 pub thin-spec : {M : Type 1} → statement M
-thin-spec = tie.close (tie.spec fall-row-requires same-length returns take-out-requires push-requires same-length-2 same-length-3 same-length-4 returns-2)
+thin-spec = tie.close (tie.spec fall-row-requires same-length returns push-requires store-requires same-length-2 same-length-3 same-length-4 returns-2)
