@@ -149,9 +149,12 @@ class Specs:
                 if found:
                     yield found
 
-    def closure(self, names):
-        """The files of all definitions that these names reach."""
-        reached, todo = set(), [key for key in self.text if key[1] in names]
+    def closure(self, names, listed):
+        """The files of all definitions that these names reach. Of a name that several files define, those in the files listed are meant."""
+        reached, todo = set(), []
+        for name in names:
+            keys = [key for key in self.text if key[1] == name]
+            todo += [key for key in keys if key[0] in listed] or keys
         while todo:
             key = todo.pop()
             if key not in reached:
@@ -171,7 +174,7 @@ def check_key(number, line, specs, keys):
     for key in re.findall(r'\*\*(\w+)\*\*', files):
         listed |= keys.get(key, set())
     keys[re.match(r'- \*\*(\w+)', line)[1]] = listed
-    reached = specs.closure(names)
+    reached = specs.closure(names, listed)
     for file in sorted(reached - listed):
         fault(number, f'{", ".join(names)} rest on {file} too')
     for file in sorted(listed - reached):

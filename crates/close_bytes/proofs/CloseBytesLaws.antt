@@ -9,7 +9,8 @@ use native.Mathlib.Omega.{arith}
 use lib.ListN.{length, take, drop, length-append}
 use lib.Seq.{take-at}
 use Rattle.book.specs.GoodFacts.{GoodFacts}
-use Rattle.closing.specs.Close.{entries, overlay}
+use Rattle.closing_model.specs.Start.{entries}
+use Rattle.closing.specs.Close.{overlay}
 use Rattle.elements.specs.Elements.{bytesOf, whole}
 use Rattle.elements.proofs.ElementsLaws.{length-bytesOf}
 use Rattle.entries_model.specs.Entries.{fullLimits}

@@ -1,6 +1,6 @@
--- The laws of `specs/Close.antt` and `specs/Ready.antt`, in their order. No contract cites this file. The ones that matter most:
--- `closeFault-good` (what no refusal gives), `closeOf-refused` and `closeOf-good` (the outcome by cases), `overlay-front` (a front that is
--- lent and comes back written).
+-- The laws of `specs/Close.antt`, of starting's `specs/Ready.antt` and of `specs/Wrote.antt`, in this order. No contract cites
+-- this file. The ones that matter most: `closeFault-good` (what no refusal gives), `closeOf-refused` and `closeOf-good` (the outcome by cases),
+-- `overlay-front` (a front that is lent and comes back written).
 -- Assumes nothing.
 use mathlib.Core.Path.{_≡_, refl, sym, ap, _∙_}
 use mathlib.Core.Bool.{false}
@@ -21,9 +21,10 @@ use Rattle.answer.specs.declared.Answer.{Answer}
 use Rattle.answer.specs.declared.Answer.the-variants.{Live, Dead}
 use Rattle.answer.specs.Answer.{wordOf}
 use Rattle.closing_model.specs.Closing.{closing}
-use Rattle.closing_model.specs.Start.{startLowers, startUppers}
-use Rattle.closing.specs.Close.{Outcome, refused, outcomeOf, entries, closeFault, closeGood, unless, closeOf, overlay, Closes}
-use Rattle.closing.specs.Ready.{Ready, Wrote}
+use Rattle.closing_model.specs.Start.{startLowers, startUppers, entries}
+use Rattle.starting.specs.Ready.{Ready}
+use Rattle.closing.specs.Close.{Outcome, refused, outcomeOf, closeFault, closeGood, unless, closeOf, overlay, Closes}
+use Rattle.closing.specs.Wrote.{Wrote}
 
 -- ---- closeFault
 

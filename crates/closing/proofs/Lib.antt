@@ -1,3 +1,1 @@
 pub mod CloseLaws
-pub mod FillLaws
-mod StartedLaws

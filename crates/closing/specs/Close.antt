@@ -1,6 +1,5 @@
 -- What `close` answers and writes (document 01, 'Closing' and 'Entries and their numbers'), from the bytes of a book and from how many
 -- elements each of its two outputs has room for.
---   entries b               k(n+1), how many lowers and how many uppers the table of book b has
 --   closeFault              the number that refuses: the book's own, then 9 where either output is too short; 0 where none does
 --   Outcome                 refused with a number; dead, with so many entries of each output filled; live, with the bounds
 --   closeGood, outcomeOf    the outcome for a good book, with room: what the model `closing` says of the starting table
@@ -21,11 +20,7 @@ use Rattle.book.specs.declared.Limits.{Limits}
 use Rattle.book.specs.Layout.{slots, values, rows}
 use Rattle.book.specs.Refusal.{fault, _orElse_, refusal}
 use Rattle.closing_model.specs.Closing.{closing}
-use Rattle.closing_model.specs.Start.{startLowers, startUppers}
-use Rattle.closing_model.specs.Table.{size}
-
-abbrev pub entries : List ℕ → ℕ
-entries b = size (slots b) (values b)
+use Rattle.closing_model.specs.Start.{startLowers, startUppers, entries}
 
 unfoldable pub closeFault : Limits → List ℕ → ℕ → ℕ → ℕ
 closeFault limits b lowersRoom uppersRoom =

@@ -1,3 +1,2 @@
 pub mod Close
-pub mod Fill
-pub mod Ready
+pub mod Wrote

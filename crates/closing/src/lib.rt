@@ -1,24 +1,24 @@
 // The closing of a book's bounds, typed: the loosest closed table within its rows, or dead.
 // `close` refuses by the book's numbers 1 to 8, then by 9 where a lent output is too short; every book and every length gets an answer.
-// The contracts cite `specs/Close.antt`; those of the inner functions `specs/Ready.antt` too.
-mod fill; // fill.rt: zeros, and the prefix lengths of a table with no rows
-mod start; // start.rt: the starting table of a book
-
+// The contracts cite `specs/Close.antt` and `entries` of closing_model's `specs/Start.antt`; that of `close_exactly` cites `specs/Wrote.antt` and
+// starting's `specs/Ready.antt`.
 use answer::Answer;
 use book::Limits;
 use book::number;
 use book::slots;
 use book::values;
 use bounds::close_table;
-use fill::fill_zeros;
+use filling::fill_zeros;
 use reader::read;
-use start::start_table;
+use starting::start_table;
 ghost use mathlib.Core.Path.{_≡_};
 ghost use Prim.Native.Nat.{_≤_};
 ghost use lib.ListN.{length};
 ghost use Rattle.answer.specs.Answer.{wordOf};
-ghost use Rattle.closing.specs.Close.{Closes, closeFault, closeOf, closeGood, entries};
-ghost use Rattle.closing.specs.Ready.{Ready, Wrote};
+ghost use Rattle.closing_model.specs.Start.{entries};
+ghost use Rattle.starting.specs.Ready.{Ready};
+ghost use Rattle.closing.specs.Close.{Closes, closeFault, closeOf, closeGood};
+ghost use Rattle.closing.specs.Wrote.{Wrote};
 
 // Closes the table of book into the fronts of lowers and uppers, value by value.
 pub fn close(book: &[u8], limits: Limits, lowers: &mut [u16], uppers: &mut [u16]) -> Answer

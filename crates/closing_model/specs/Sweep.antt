@@ -1,4 +1,4 @@
--- What the steps of a sweep do to two lists that hold a table: the relations that the contracts of `bounds` cite.
+-- What the steps of a sweep do to two lists that hold a table: the relations that the contracts of `stores`, `lines` and `columns` cite.
 --   columnSum n k f t    the sum of f over the first k values, at prefix t
 --   widest n k T t       the widest gap from a lower to its upper over the first k values, at prefix t
 --   SumsAre              what the uppers and the lowers of all values sum up to, at prefix t

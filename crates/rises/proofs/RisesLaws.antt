@@ -26,7 +26,7 @@ use Rattle.segments_model.specs.Lines.{Rising}
 use Rattle.filter_model.specs.Mirror.{boundLine}
 use Rattle.filter_model.specs.Rises.{risesOf, TableRises}
 use Rattle.rises.specs.Rises.{grows, riseMask, riseMasks, overRises, Holds, Marks}
-use Rattle.closing.proofs.FillLaws.{Filled, filled-none, filled-more}
+use Rattle.filling.proofs.FillLaws.{Filled, filled-none, filled-more}
 
 -- ---- grows
 

@@ -12,8 +12,9 @@ use lib.ListN.{length}
 use Rattle.answer.specs.declared.Answer.{Answer}
 use Rattle.answer.specs.Answer.{wordOf}
 use Rattle.book.specs.Layout.{slots, values}
-use Rattle.closing.specs.Close.{outcomeOf, closeGood, entries}
-use Rattle.closing.specs.Ready.{Wrote}
+use Rattle.closing_model.specs.Start.{entries}
+use Rattle.closing.specs.Close.{outcomeOf, closeGood}
+use Rattle.closing.specs.Wrote.{Wrote}
 use Rattle.rises.specs.Rises.{overRises, Holds}
 use Rattle.settling_model.specs.Book.{closedBook}
 use Rattle.settling.specs.Ready.{FitBook}

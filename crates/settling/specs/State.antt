@@ -15,8 +15,8 @@ use mathlib.Core.Option.{Option, none, some}
 use Prim.Native.Nat.{ℕ, _+_, _*_, _≤_, _<_}
 use lib.ListN.{length}
 use Rattle.book.specs.Layout.{slots, values}
+use Rattle.closing_model.specs.Start.{entries}
 use Rattle.closing_model.specs.Table.{view}
-use Rattle.closing.specs.Close.{entries}
 use Rattle.settling_model.specs.Book.{closedBook, settledBook}
 use Rattle.filter_model.specs.Mirror.{Mirror}
 use Rattle.filter_model.specs.Rises.{TableRises}

@@ -7,8 +7,8 @@ use native.Mathlib.Omega.{arith}
 use lib.ListN.{length, replicate}
 use borrow.Author.Needs.{needs}
 use Rattle.closing_model.specs.Closing.{closing}
+use Rattle.closing_model.specs.Start.{entries}
 use Rattle.bounds.specs.Answer.{answered}
-use Rattle.closing.specs.Close.{entries}
 use Rattle.closing.proofs.CloseLaws.{wrote-live, wrote-dead}
 use Rattle.closing.proofs.close_exactly.Statement.{statement}
 use Rattle.closing.proofs.close_exactly.Tie as tie

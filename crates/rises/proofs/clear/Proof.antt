@@ -3,7 +3,7 @@
 use mathlib.Core.Path.{_≡_, refl}
 use Prim.Native.Nat.{_+_, _-_, _≤_}
 use native.Mathlib.Omega.{arith}
-use Rattle.closing.proofs.FillLaws.{Filled, filled-none, filled-more}
+use Rattle.filling.proofs.FillLaws.{Filled, filled-none, filled-more}
 use Rattle.rises.proofs.clear.Statement.{statement}
 use Rattle.rises.proofs.clear.Tie as tie
 

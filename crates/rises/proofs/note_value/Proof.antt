@@ -9,7 +9,7 @@ use lib.ListN.{length, getD, length-set}
 use Rattle.domains.specs.Mask.{testBit}
 use Rattle.closing_model.specs.Table.{place, size}
 use Rattle.closing_model.proofs.PlaceLaws.{place-below}
-use Rattle.closing.proofs.FillLaws.{Filled, filled-more}
+use Rattle.filling.proofs.FillLaws.{Filled, filled-more}
 use Rattle.rises.specs.Rises.{riseMask}
 use Rattle.rises.proofs.RisesLaws.{marks-rest, riseMask-turn, testBit-riseMask-high, rises-start, rises-all}
 use Rattle.rises.proofs.note_value.Statement.{statement}

@@ -5,7 +5,7 @@ use mathlib.Core.Path.{_≡_, refl, _∙_}
 use Prim.Native.Nat.{_-_, _≤_}
 use native.Mathlib.Omega.{arith}
 use lib.ListN.{length}
-use Rattle.closing.proofs.FillLaws.{Filled, filled-none, filled-more, filled-all, listOf-const}
+use Rattle.filling.proofs.FillLaws.{Filled, filled-none, filled-more, filled-all, listOf-const}
 use Rattle.settling.proofs.load.clear_masks.Statement.{statement}
 use Rattle.settling.proofs.load.clear_masks.Tie as tie
 

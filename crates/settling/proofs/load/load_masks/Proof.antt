@@ -6,7 +6,7 @@ use Prim.Native.Nat.{_-_, _≤_}
 use native.Mathlib.Omega.{arith}
 use lib.ListN.{length}
 use Rattle.book.specs.Layout.{maskAt}
-use Rattle.closing.proofs.FillLaws.{Filled, filled-none, filled-more, filled-all}
+use Rattle.filling.proofs.FillLaws.{Filled, filled-none, filled-more, filled-all}
 use Rattle.settling.proofs.load.load_masks.Statement.{statement}
 use Rattle.settling.proofs.load.load_masks.Tie as tie
 

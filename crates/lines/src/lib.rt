@@ -1,0 +1,109 @@
+// The rules along one value's line: between a prefix and the next, forward and back.
+// The contracts cite `CrossAnswer` of specs/Cross.antt, and `Did`, `Passed`, `Decides`, `Stairs`, `Fwds`, `Bwds` and `Line` of closing_model's
+// specs/Sweep.antt.
+use stores::at;
+use stores::entry;
+use stores::greater16;
+use stores::less;
+use stores::less16;
+use stores::lower_to;
+use stores::raise;
+ghost use Prim.Native.Nat.{_+_, _<_};
+ghost use lib.ListN.{length, getD};
+ghost use Rattle.closing_model.specs.Table.{view};
+ghost use Rattle.closing_model.specs.Sweep.{Did, Passed, Decides, Stairs, Fwds, Bwds, Line};
+ghost use Rattle.lines.specs.Cross.{CrossAnswer};
+
+// Whether each entry of a line is the one before or one more: by the steepest rise and the steepest fall, without a branch in the loop.
+fn stairs(s: &[u16], base: usize, n: usize) -> bool
+    requires { ⌜ base + n < length (now s) ⌝ }
+    ensures { λ r. ⌜ Decides (Stairs (λ p. getD (now (s .entry)) p 0) base n) r ⌝ }
+{
+    let mut rise = 0;
+    let mut fall = 0;
+    let mut t = 0;
+    while t < n {
+        let a = entry(s, base + t);
+        let b = entry(s, base + t + 1);
+        rise = greater16(rise, less16(b, a));
+        fall = greater16(fall, less16(a, b));
+        t += 1;
+    }
+    if 1 < rise {
+        return false;
+    }
+    if 0 < fall {
+        return false;
+    }
+    true
+}
+
+// Whether one value's line keeps its rules.
+fn keeps(lowers: &[u16], uppers: &[u16], base: usize, n: usize) -> bool
+    requires { ⌜ (base + n < length (now lowers)) × (base + n < length (now uppers)) ⌝ }
+    ensures { λ r. ⌜ Decides (Line base n (view (now (lowers .entry)) (now (uppers .entry)))) r ⌝ }
+{
+    if stairs(lowers, base, n) {
+        return stairs(uppers, base, n);
+    }
+    false
+}
+
+// One value's line, from its start to its end, with the bounds at t in a and b.
+fn forward_pass(lowers: &mut [u16], uppers: &mut [u16], base: usize, n: usize)
+    requires { ⌜ (base + n < length (now lowers)) × (base + n < length (now uppers)) ⌝ }
+    ensures { λ r. ⌜ Passed (base + n + 1) (Fwds base n) (now (lowers .entry)) (now (uppers .entry)) (now (lowers .exit)) (now (uppers .exit)) ⌝ }
+{
+    let mut a = at(lowers, base);
+    let mut b = at(uppers, base);
+    let mut t = 0;
+    while t < n {
+        a = raise(lowers, base + t + 1, a);
+        b = lower_to(uppers, base + t + 1, b + 1);
+        t += 1;
+    }
+}
+
+// One value's line, from its end to its start, with the bounds at t in a and b.
+fn backward_pass(lowers: &mut [u16], uppers: &mut [u16], base: usize, n: usize)
+    requires { ⌜ (base + n < length (now lowers)) × (base + n < length (now uppers)) ⌝ }
+    ensures { λ r. ⌜ Passed (base + n + 1) (Bwds base 0 n) (now (lowers .entry)) (now (uppers .entry)) (now (lowers .exit)) (now (uppers .exit)) ⌝ }
+{
+    let mut a = at(lowers, base + n);
+    let mut b = at(uppers, base + n);
+    let mut t = n;
+    while 0 < t {
+        t -= 1;
+        a = raise(lowers, base + t, less(a, 1));
+        b = lower_to(uppers, base + t, b);
+    }
+}
+
+// One value's line, both ways, and whether it changed. Where the line keeps its rules no pass is made; where it does not, one stores.
+pub fn line(lowers: &mut [u16], uppers: &mut [u16], base: usize, n: usize) -> bool
+    requires { ⌜ (base + n < length (now lowers)) × (base + n < length (now uppers)) ⌝ }
+    ensures { λ r. ⌜ Did (base + n + 1) (Line base n) (now (lowers .entry)) (now (uppers .entry)) (now (lowers .exit)) (now (uppers .exit)) r ⌝ }
+{
+    if keeps(lowers, uppers, base, n) {
+        return false;
+    }
+    forward_pass(lowers, uppers, base, n);
+    backward_pass(lowers, uppers, base, n);
+    true
+}
+
+// Whether an entry of one value's line is crossed, by the widest gap from an upper to its lower, without a branch in the loop.
+pub fn crosses(lowers: &[u16], uppers: &[u16], base: usize, n: usize) -> bool
+    requires { ⌜ (base + n < length (now lowers)) × (base + n < length (now uppers)) ⌝ }
+    ensures { λ r. ⌜ CrossAnswer base n (view (now (lowers .entry)) (now (uppers .entry))) r ⌝ }
+{
+    let mut gap = 0;
+    let mut t = 0;
+    while t <= n {
+        let a = entry(lowers, base + t);
+        let b = entry(uppers, base + t);
+        gap = greater16(gap, less16(a, b));
+        t += 1;
+    }
+    0 < gap
+}
