@@ -8,8 +8,8 @@ ghost use lib.ListN.{length};
 ghost use Rattle.answer.specs.Answer.{wordOf};
 ghost use Rattle.book.specs.Refusal.{refusal, numberOf};
 ghost use Rattle.closing.specs.Close.{Closes, closeOf};
-ghost use Rattle.settling.specs.Settle.{Settles, settleOf};
-ghost use Rattle.session.specs.Entry.{SessionRan, sessionOf};
+ghost use Rattle.settle_fault.specs.Settle.{Settles, settleOf};
+ghost use Rattle.session_fault.specs.Entry.{SessionRan, sessionOf};
 ghost use Rattle.entries_model.specs.Entries.{fullLimits};
 
 // Whether book is a good book, or why not.

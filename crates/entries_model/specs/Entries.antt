@@ -16,8 +16,8 @@ use Rattle.book.specs.declared.Limits.{Limits}
 use Rattle.book.specs.Refusal.{refusal}
 use Rattle.elements.specs.Elements.{bytesOf, whole}
 use Rattle.closing.specs.Close.{Closes, closeOf}
-use Rattle.settling.specs.Settle.{Settles, settleOf}
-use Rattle.session.specs.Entry.{sessionOf, SessionRan}
+use Rattle.settle_fault.specs.Settle.{Settles, settleOf}
+use Rattle.session_fault.specs.Entry.{sessionOf, SessionRan}
 
 abbrev pub fullLimits : Limits
 fullLimits = record { slots = 256; values = 32; rows = 1024 }

@@ -22,7 +22,7 @@ use Rattle.segments_model.specs.Links.{gaps}
 use Rattle.filter_model.specs.Mirror.{Mirror, cellsOf}
 use Rattle.filter.specs.declared.Outcome.{Outcome}
 use Rattle.filter.specs.declared.Outcome.the-variants as Outcomes
-use Rattle.settling.specs.State.{BookState, OpensBook}
+use Rattle.book_opening.specs.State.{BookState, OpensBook}
 use Rattle.session_model.specs.BookRun.{rulesOf, stateAfter, repliesOf, standingAfter}
 use Rattle.session_model.specs.Calls as Calls
 use Rattle.session_model.specs.Calls.{Call, callsOf}

@@ -21,7 +21,7 @@ use Rattle.closing_model.specs.Table.{Table, view}
 use Rattle.closing.specs.Close.{overlay}
 use Rattle.settling_model.specs.Book.{closedBook, settledBook}
 use Rattle.filter_model.specs.Mirror.{Mirror}
-use Rattle.settling.specs.State.{StateRoom}
+use Rattle.book_opening.specs.State.{StateRoom}
 use Rattle.session_model.specs.BookRun.{rulesOf, stateAfter, repliesOf, standingAfter}
 use Rattle.session_model.specs.Calls.{callsOf}
 use Rattle.session_model.specs.Demand.{Demand3, DeadOpening}

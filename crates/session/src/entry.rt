@@ -1,16 +1,14 @@
 // The session entry, typed. It refuses by the book's numbers 1 to 8, then by 10 where the call list is not whole calls or too long, then by 9
-// where an output is too short; every book, list and length gets an answer. The contracts cite `specs/Entry.antt`.
+// where an output is too short; every book, list and length gets an answer. The contracts cite session_fault's `specs/Entry.antt`.
 use answer::Answer;
 use book::Limits;
-use book::number;
 use book::slots;
-use reader::read;
 use running::run_book;
-ghost use mathlib.Core.Path.{_≡_};
+use session_fault::fault;
 ghost use lib.ListN.{length};
 ghost use Rattle.answer.specs.Answer.{wordOf};
-ghost use Rattle.settling.specs.Ready.{Capacity};
-ghost use Rattle.session.specs.Entry.{sessionFault, sessionOf, SessionRan, SessionReady, Exactly};
+ghost use Rattle.settle_fault.specs.Ready.{Capacity};
+ghost use Rattle.session_fault.specs.Entry.{sessionOf, SessionRan, SessionReady, Exactly};
 
 // Runs the call list on a session of the book: two words a call into the front of answers, the last masks into the front of masks.
 pub fn run_session(
@@ -31,30 +29,6 @@ pub fn run_session(
     }
     let n = slots(book);
     run_exactly(book, calls, answers, &mut masks[..n])
-}
-
-// The number that refuses book, a call list of so many bytes, or outputs with so much room; 0 where none does.
-pub fn fault(book: &[u8], limits: Limits, bytes: usize, words: usize, room: usize) -> u8
-    ensures { λ r. ⌜ r ≡ sessionFault limits (now (book .entry)) bytes words room ⌝ }
-{
-    let number = number(read(book, limits));
-    if number != 0 {
-        return number as u8;
-    }
-    if bytes % 4 != 0 {
-        return 10;
-    }
-    if 16384 < bytes {
-        return 10;
-    }
-    let count = bytes / 4;
-    if words < 2 * count {
-        return 9;
-    }
-    if room < slots(book) {
-        return 9;
-    }
-    0
 }
 
 // The same for a good book and an accepted list, with masks that have just the room for the slots. The arrays have room for 256 slots, 32

@@ -5,7 +5,7 @@ use mathlib.Core.Path.{_≡_}
 use mathlib.Core.List.{List}
 use Prim.Native.Nat.{ℕ, _*_, _/_, _≤_}
 use lib.ListN.{length}
-use Rattle.session.specs.Entry.{SessionReady}
+use Rattle.session_fault.specs.Entry.{SessionReady}
 
 pub record SessionOut (b calls words row answers masks : List ℕ) : Type 0 where
   pub ready : SessionReady b calls words row

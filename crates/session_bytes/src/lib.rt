@@ -1,15 +1,15 @@
 // A session from bytes to bytes, at document 01's limits. The contracts cite `specs/SessionOut.antt`, entries_model's
-// `specs/Entries.antt` and session's `specs/Entry.antt`.
+// `specs/Entries.antt` and session_fault's `specs/Entry.antt`.
 use answer::Answer;
 use answer::word;
 use book::Limits;
 use book::slots;
 use elements::write32;
-use session::fault;
 use session::run_exactly;
+use session_fault::fault;
 ghost use Rattle.elements.specs.Elements.{bytesOf};
 ghost use Rattle.session_model.specs.Calls.{callsOf};
-ghost use Rattle.session.specs.Entry.{SessionRan, sessionGood};
+ghost use Rattle.session_fault.specs.Entry.{SessionRan, sessionGood};
 ghost use Rattle.entries_model.specs.Entries.{SessionEntry};
 ghost use Rattle.session_bytes.specs.SessionOut.{SessionOut};
 

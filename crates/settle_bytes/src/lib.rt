@@ -4,13 +4,13 @@ use answer::word;
 use book::Limits;
 use book::slots;
 use elements::write32;
-use settling::fault;
+use settle_fault::fault;
 use settling::settle_exactly;
 ghost use Prim.Native.Nat.{_*_, _≤_};
 ghost use lib.ListN.{length};
 ghost use Rattle.elements.specs.Elements.{bytesOf};
-ghost use Rattle.settling.specs.Settle.{Settles, settleGood};
-ghost use Rattle.settling.specs.Ready.{Ready};
+ghost use Rattle.settle_fault.specs.Settle.{Settles, settleGood};
+ghost use Rattle.settle_fault.specs.Ready.{Ready};
 ghost use Rattle.entries_model.specs.Entries.{SettleEntry};
 
 // Settles the masks of book in an array of 256, and writes them into the front of masks.

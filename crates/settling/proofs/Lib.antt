@@ -1,4 +1,0 @@
-pub mod OpenLaws
-pub mod RisesLaws
-pub mod SettleLaws
-mod WorldLaws

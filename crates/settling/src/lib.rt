@@ -1,25 +1,20 @@
 // The settling of a book's masks, typed: the largest stable list within them, or dead.
 // `settle` refuses by the book's numbers 1 to 8, then by 9 where the lent output is too short; every book and every length gets an answer.
 // Its limits may be any for which the working arrays have room.
-// The contracts cite `specs/Settle.antt`; those of the inner functions `specs/Ready.antt` and `specs/State.antt` too.
-mod load; // load.rt: the masks of a book, and masks with no value
-mod open; // open.rt: from a book to the filter's state
-mod table; // table.rt: the rises of a book's closed table
-
+// The contracts cite settle_fault's `specs/Settle.antt` and `specs/Ready.antt`.
 use answer::Answer;
 use book::Limits;
-use book::number;
 use book::slots;
+use book_masks::clear_masks;
+use book_opening::open_book;
 use filter::Outcome;
-pub use load::clear_masks;
-pub use open::open_book;
-use reader::read;
+use settle_fault::fault;
 ghost use mathlib.Core.Path.{_≡_};
 ghost use lib.ListN.{length};
 ghost use Rattle.answer.specs.Answer.{wordOf};
 ghost use Rattle.settling_model.specs.Book.{settledBook};
-ghost use Rattle.settling.specs.Settle.{Settles, settleFault, settleGood, settleOf};
-ghost use Rattle.settling.specs.Ready.{Capacity, Ready, Wrote, settledBy};
+ghost use Rattle.settle_fault.specs.Settle.{Settles, settleGood, settleOf};
+ghost use Rattle.settle_fault.specs.Ready.{Capacity, Ready, Wrote, settledBy};
 
 // Settles the masks of book into the front of masks.
 pub fn settle(book: &[u8], limits: Limits, masks: &mut [u32]) -> Answer
@@ -33,20 +28,6 @@ pub fn settle(book: &[u8], limits: Limits, masks: &mut [u32]) -> Answer
     }
     let n = slots(book);
     settle_exactly(book, &mut masks[..n])
-}
-
-// The number that refuses book, or an output with room for so many masks; 0 where none does.
-pub fn fault(book: &[u8], limits: Limits, room: usize) -> u8
-    ensures { λ r. ⌜ r ≡ settleFault limits (now (book .entry)) room ⌝ }
-{
-    let refusal = number(read(book, limits));
-    if refusal != 0 {
-        return refusal as u8;
-    }
-    if room < slots(book) {
-        return 9;
-    }
-    0
 }
 
 // Settles the masks of a good book in a slice that has just the room for them.

@@ -7,10 +7,10 @@ use native.Mathlib.Omega.{arith}
 use borrow.Author.Needs.{needs}
 use lib.Seq.{length-take-le}
 use lib.ListN.{length}
-use Rattle.session.proofs.EntryLaws.{sessionFault-good, sessionFault-short, sessionFault-room-words, sessionFault-room-masks, sessionOf-refused, sessionOf-good, session-refused}
-use Rattle.session.specs.Entry.{sessionFault}
-use Rattle.settling.proofs.SettleLaws.{fit-of}
-use Rattle.settling.specs.Ready.{Capacity}
+use Rattle.session_fault.proofs.EntryLaws.{sessionFault-good, sessionFault-short, sessionFault-room-words, sessionFault-room-masks, sessionOf-refused, sessionOf-good, session-refused}
+use Rattle.session_fault.specs.Entry.{sessionFault}
+use Rattle.settle_fault.proofs.SettleLaws.{fit-of}
+use Rattle.settle_fault.specs.Ready.{Capacity}
 use Rattle.elements.proofs.ElementsLaws.{bytesOf-empty}
 use Rattle.elements.specs.Elements.{bytesOf, whole}
 use Rattle.entries_model.specs.Entries.{fullLimits}

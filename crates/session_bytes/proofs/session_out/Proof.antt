@@ -1,8 +1,8 @@
 -- `session_bytes::session_out` meets its contract: what `run_exactly` leaves in words and row is written out as bytes (`session-ran`). Assumes nothing.
 use mathlib.Core.Path.{sym, _∙_}
 use borrow.Author.Needs.{needs}
-use Rattle.session.proofs.EntryLaws.{session-ran}
-use Rattle.session.specs.Entry.{mostMarks}
+use Rattle.session_fault.proofs.EntryLaws.{session-ran}
+use Rattle.session_fault.specs.Entry.{mostMarks}
 use Rattle.elements.specs.Elements.{bytesOf}
 use Rattle.session_bytes.proofs.SessionBytesLaws.{overlay-exact, bytes-overlay, words-length}
 use Rattle.session_bytes.proofs.session_out.Statement.{statement}

@@ -9,9 +9,9 @@ use lib.Seq.{length-take-le}
 use borrow.Author.Needs.{needs}
 use Rattle.elements.specs.Elements.{bytesOf, whole}
 use Rattle.elements.proofs.ElementsLaws.{bytesOf-empty}
-use Rattle.settling.specs.Settle.{settleFault}
-use Rattle.settling.specs.Ready.{Capacity}
-use Rattle.settling.proofs.SettleLaws.{settleFault-good, settleFault-room, settleOf-refused, settleOf-good, settles-refused, ready-of}
+use Rattle.settle_fault.specs.Settle.{settleFault}
+use Rattle.settle_fault.specs.Ready.{Capacity}
+use Rattle.settle_fault.proofs.SettleLaws.{settleFault-good, settleFault-room, settleOf-refused, settleOf-good, settles-refused, ready-of}
 use Rattle.entries_model.specs.Entries.{fullLimits}
 use Rattle.settle_bytes.proofs.settle.Statement.{statement}
 use Rattle.settle_bytes.proofs.settle.Tie as tie

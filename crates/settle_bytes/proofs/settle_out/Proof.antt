@@ -7,7 +7,7 @@ use lib.ListN.{drop}
 use borrow.Author.Needs.{needs}
 use Rattle.elements.specs.Elements.{bytesOf}
 use Rattle.elements.proofs.ElementsLaws.{length-bytesOf}
-use Rattle.settling.proofs.SettleLaws.{settles-wrote}
+use Rattle.settle_fault.proofs.SettleLaws.{settles-wrote}
 use Rattle.settle_bytes.proofs.settle_out.Statement.{statement}
 use Rattle.settle_bytes.proofs.settle_out.Tie as tie
 

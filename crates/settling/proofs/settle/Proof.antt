@@ -6,8 +6,8 @@ use lib.ListN.{length}
 use lib.Seq.{length-take-le}
 use borrow.Author.Needs.{needs}
 use Rattle.closing.proofs.CloseLaws.{overlay-front}
-use Rattle.settling.specs.Settle.{settleFault}
-use Rattle.settling.proofs.SettleLaws.{settleFault-good, settleFault-room, settleOf-refused, settleOf-good, settles-refused, settles-wrote, ready-of}
+use Rattle.settle_fault.specs.Settle.{settleFault}
+use Rattle.settle_fault.proofs.SettleLaws.{settleFault-good, settleFault-room, settleOf-refused, settleOf-good, settles-refused, settles-wrote, ready-of}
 use Rattle.settling.proofs.settle.Statement.{statement}
 use Rattle.settling.proofs.settle.Tie as tie
 

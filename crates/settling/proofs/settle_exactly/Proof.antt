@@ -4,7 +4,7 @@ use mathlib.Core.Path.{ap, _∙_}
 use Prim.Native.Nat.{ℕ}
 use lib.ListN.{replicate}
 use borrow.Author.Needs.{needs}
-use Rattle.settling.proofs.SettleLaws.{wrote-live, wrote-dead}
+use Rattle.settle_fault.proofs.SettleLaws.{wrote-live, wrote-dead}
 use Rattle.settling.proofs.settle_exactly.Statement.{statement}
 use Rattle.settling.proofs.settle_exactly.Tie as tie
 

@@ -2,7 +2,7 @@
 -- what the model says of it (`opens-live`, `opens-dead`). Assumes nothing.
 use native.Mathlib.Nat.{le-refl}
 use borrow.Author.Needs.{needs}
-use Rattle.settling.proofs.OpenLaws.{state-room, opens-live, opens-dead}
+use Rattle.book_opening.proofs.OpenLaws.{state-room, opens-live, opens-dead}
 use Rattle.settling.proofs.settles.Statement.{statement}
 use Rattle.settling.proofs.settles.Tie as tie
 

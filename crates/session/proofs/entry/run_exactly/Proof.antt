@@ -3,7 +3,7 @@
 use native.Mathlib.Nat.{le-refl}
 use borrow.Author.Needs.{needs}
 use lib.Dec.{lit<}
-use Rattle.session.proofs.EntryLaws.{ready-runnable, exactly-live, exactly-dead}
+use Rattle.session.proofs.RunLaws.{ready-runnable, exactly-live, exactly-dead}
 use Rattle.session.proofs.entry.run_exactly.Statement.{statement}
 use Rattle.session.proofs.entry.run_exactly.Tie as tie
 

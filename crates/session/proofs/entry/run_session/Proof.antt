@@ -6,7 +6,7 @@ use borrow.Author.Needs.{needs}
 use lib.Seq.{length-take-le}
 use lib.ListN.{length}
 use Rattle.closing.proofs.CloseLaws.{overlay-front}
-use Rattle.session.proofs.EntryLaws.{sessionFault-good, sessionFault-room-masks, sessionOf-refused, sessionOf-good, session-refused, session-ran, session-ready}
+use Rattle.session_fault.proofs.EntryLaws.{sessionFault-good, sessionFault-room-masks, sessionOf-refused, sessionOf-good, session-refused, session-ran, session-ready}
 use Rattle.session.proofs.entry.run_session.Statement.{statement}
 use Rattle.session.proofs.entry.run_session.Tie as tie
 

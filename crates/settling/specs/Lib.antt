@@ -1,3 +1,0 @@
-pub mod Ready
-pub mod Settle
-pub mod State
