@@ -29,7 +29,7 @@ use Rattle.acts.specs.declared.Session.{Session}
 use Rattle.acts.specs.declared.Standing.{Standing}
 use Rattle.acts.specs.declared.Standing.the-variants.{OpenedDead, Live, Dead}
 use Rattle.acts.proofs.PileLaws.{pile-first, pile-mark}
-use Rattle.acts.proofs.WorkingLaws.{live-working}
+use Rattle.acts.proofs.RepresentsLaws.{live-working}
 
 -- ---- mark
 act-mark : (R : Rules) (S : State)

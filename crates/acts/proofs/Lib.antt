@@ -1,6 +1,3 @@
 pub mod CallLaws
-mod CutLaws
-mod DecideLaws
 pub mod PileLaws
-mod StruckLaws
-pub mod WorkingLaws
+pub mod RepresentsLaws

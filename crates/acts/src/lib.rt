@@ -1,10 +1,9 @@
-// What each call does to a session on the segment engine, where no number refuses it: as the plain machine of session_model does.
+// What each call but a decision does to a session on the segment engine, where no number refuses it: as the plain machine of session_model does.
 // The contracts cite `specs/Given.antt`, `specs/Represents.antt` and `specs/Answers.antt`.
-mod act; // act.rt: what each call does
+mod act; // act.rt: what each call but a decision does
 mod flags; // flags.rt: the flags in a standing
 
 pub use act::back;
-pub use act::decide;
 pub use act::mark;
 pub use act::show;
 pub use act::walls;

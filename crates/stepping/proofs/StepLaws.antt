@@ -28,7 +28,7 @@ use Rattle.acts.specs.declared.Session.{Session}
 use Rattle.acts.specs.declared.Standing.{Standing}
 use Rattle.acts.specs.declared.Standing.the-variants.{OpenedDead, Live, Dead}
 use Rattle.acts.specs.declared.Stepped.{Stepped}
-use Rattle.acts.proofs.WorkingLaws.{live-working}
+use Rattle.acts.proofs.RepresentsLaws.{live-working}
 
 -- ---- the kind byte
 module _ (kind v slot : ℕ) where

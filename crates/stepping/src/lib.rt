@@ -3,13 +3,13 @@
 use acts::Session;
 use acts::Stepped;
 use acts::back;
-use acts::decide;
 use acts::is_dead;
 use acts::mark;
 use acts::show;
 use acts::walls;
 use calls::Call;
 use calls::refusal_of;
+use deciding::decide;
 ghost use Rattle.calls.specs.Given.{callGiven};
 ghost use Rattle.acts.specs.Represents.{Running};
 ghost use Rattle.acts.specs.Answers.{Acts};

@@ -18,14 +18,15 @@ use Rattle.session_model.specs.Machine.{decided, act}
 use Rattle.session_model.specs.Standing.{stand}
 use Rattle.session_model.specs.State as Machine
 use Rattle.session_model.specs.State.{Rules, State}
 use Rattle.acts.specs.Given.{decisionOf, CutOf, standingOf}
 use Rattle.acts.specs.Represents.{Represents}
 use Rattle.acts.specs.Answers.{Answered, Acts, Deciding, Strikes}
 use Rattle.acts.specs.declared.Session.{Session}
 use Rattle.acts.specs.declared.Standing.the-variants.{Live, Dead}
-use Rattle.acts.proofs.CutLaws.{cut-live, cut-dead}
-use Rattle.acts.proofs.StruckLaws.{moved-strikes}
-use Rattle.acts.proofs.WorkingLaws.{working-world, room-moved, working-live, undoable-dead, masks-back, working-dead, room-dead, live-working}
+use Rattle.acts.proofs.RepresentsLaws.{live-working}
+use Rattle.deciding.proofs.CutLaws.{cut-live, cut-dead}
+use Rattle.deciding.proofs.StruckLaws.{moved-strikes}
+use Rattle.deciding.proofs.WorkingLaws.{working-world, room-moved, working-live, undoable-dead, masks-back, working-dead, room-dead}
 
 -- ---- the machine
 act-live : (R : Rules) (S : State) (d : Decision) (N : List ℕ) → R .settle (cut d (S .masks)) ≡ some N

@@ -1,7 +1,7 @@
--- The laws of `Working` and `Represents` of `specs/Represents.antt`: what the filter and the undoing need (`working-world`, `undoable-dead`), and
+-- The laws of `Working` of acts' `specs/Represents.antt` on a decision: what the filter and the undoing need (`working-world`, `undoable-dead`), and
 -- what a call leaves: a decision that lives (`working-live`), one that dies and is taken back (`working-dead`). No contract cites this file.
 -- Assumes nothing.
-use mathlib.Core.Path.{_≡_, _∙_, subst}
+use mathlib.Core.Path.{_≡_, _∙_}
 use mathlib.Core.List.{List}
 use Prim.Native.Nat.{ℕ}
 use native.Mathlib.Omega.{arith}
@@ -14,12 +14,9 @@ use Rattle.filter.specs.Filtered.{Filtered}
 use Rattle.filter.specs.declared.Outcome.the-variants.{Live, Dead}
 use Rattle.undoing.specs.Undone.{Undoable, Undone}
 use Rattle.undoing.proofs.UndoneLaws.{moved-undoable, moved-undone}
-use Rattle.session_model.specs.State.{Rules, State}
-use Rattle.acts.specs.Represents.{Room, Working, StandsFor, Represents}
-use Rattle.acts.specs.declared.Session.{Session}
-use Rattle.acts.specs.declared.Standing.{Standing}
-use Rattle.acts.specs.declared.Standing.the-variants as Standings
+use Rattle.session_model.specs.State.{Rules}
+use Rattle.acts.specs.Represents.{Room, Working}
 use Rattle.acts.proofs.PileLaws.{base-entries, pile-moved, pile-trail}
 
 module _ {T : Table} {R : Rules} {saved : List (List ℕ)} {masks cells trail heights : List ℕ} {n k top : ℕ} (room : Room masks cells trail n k)
     (working : Working T R saved masks cells trail heights n k top) where
@@ -102,10 +99,3 @@ module _ {T : Table} {R : Rules} {saved : List (List ℕ)} {masks cells trail he
           values-fit = room .values-fit;
           heights-fit = omega (arith, done .moved .trailed .size, room .heights-fit);
         })
-
--- ---- Represents
-module _ {T : Table} {R : Rules} {S : State} {masks cells trail heights : List ℕ} {n k : ℕ} {session : Session}
-    (represents : Represents T R S masks cells trail heights n k session) where
-  pub live-working : session .standing ≡ Standings.Live → Working T R (S .saved) masks cells trail heights n k (session .top)
-  live-working live =
-      subst (λ (standing : Standing). StandsFor standing T R (S .saved) masks cells trail heights n k (session .top)) live (represents .stands)

@@ -1,7 +1,7 @@
--- `acts::act::cut_slot` meets its contract: the filter's `fix` where it is an assign, else its `strike`. Assumes nothing.
+-- `deciding::cut_slot` meets its contract: the filter's `fix` where it is an assign, else its `strike`. Assumes nothing.
 use borrow.Author.Needs.{needs}
-use Rattle.acts.proofs.act.cut_slot.Statement.{statement}
-use Rattle.acts.proofs.act.cut_slot.Tie as tie
+use Rattle.deciding.proofs.cut_slot.Statement.{statement}
+use Rattle.deciding.proofs.cut_slot.Tie as tie
 
 fix-requires : tie.Need-fix-requires
 fix-requires c κs = search needs

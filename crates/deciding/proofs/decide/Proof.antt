@@ -1,10 +1,10 @@
--- `acts::act::decide` meets its contract: Live, the machine's masks become those at exit (`decide-live`); Dead, what was struck is taken back,
+-- `deciding::decide` meets its contract: Live, the machine's masks become those at exit (`decide-live`); Dead, what was struck is taken back,
 -- and the masks stay (`decide-dead`). Assumes nothing.
 use borrow.Author.Needs.{needs}
 use Rattle.filter.proofs.FilteredLaws.{filtered-at}
-use Rattle.acts.proofs.DecideLaws.{deciding-ready, deciding-strikes, deciding-undoable, decide-live, decide-dead}
-use Rattle.acts.proofs.act.decide.Statement.{statement}
-use Rattle.acts.proofs.act.decide.Tie as tie
+use Rattle.deciding.proofs.DecideLaws.{deciding-ready, deciding-strikes, deciding-undoable, decide-live, decide-dead}
+use Rattle.deciding.proofs.decide.Statement.{statement}
+use Rattle.deciding.proofs.decide.Tie as tie
 
 cut-slot-requires : tie.Need-cut-slot-requires
 cut-slot-requires c κs =

@@ -1,0 +1,4 @@
+mod CutLaws
+mod DecideLaws
+mod StruckLaws
+mod WorkingLaws
