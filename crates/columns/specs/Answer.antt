@@ -1,6 +1,7 @@
 -- What the functions of this crate are lent and what they answer.
 --   Fits n k L U       two lists that hold just a table of k values and the prefixes 0 to n, whose numbers fit
 --   SumsMatch          what `column_sums` answers: the sums and the widest gap of a prefix, whose numbers fit
+--   Between            the rules across the values at some prefixes in a row
 --   Outcome            what a run of rules did, by its answer: nothing, stores, or the finding that no table with the rules lies within
 -- Assumes nothing.
 use mathlib.Core.Path.{_≡_}
@@ -9,7 +10,7 @@ use mathlib.Core.List.{List}
 use Prim.Native.Nat.{ℕ, _*_, _<_, _≤_}
 use lib.ListN.{length}
 use Rattle.closing_model.specs.Table.{Table, view, size, Within}
-use Rattle.closing_model.specs.Sweep.{widest, SumsAre, Did}
+use Rattle.closing_model.specs.Sweep.{widest, SumsAre, Across, Did}
 use Rattle.columns.specs.declared.Sums.{Sums}
 use Rattle.columns.specs.declared.Sweep.{Sweep}
 use Rattle.columns.specs.declared.Sweep.the-variants.{Same, Changed, Crossed}
@@ -26,6 +27,10 @@ pub record SumsMatch (n k t : ℕ) (T : Table) (s : Sums) : Type 0 where
   pub gap : s .gap ≡ widest n k T t
   pub gap-fits : s .gap < 65536
   pub lowers-fit : s .lowers ≤ 65535 * k
+
+-- the rules across the values at each prefix from t on and below e
+abbrev pub Between : ℕ → ℕ → ℕ → ℕ → Table → Type 0
+Between n k t e T = (i : ℕ) → t ≤ i → i < e → Across n k i T
 
 abbrev pub Outcome : ℕ → (Table → Type 0) → List ℕ → List ℕ → List ℕ → List ℕ → Sweep → Type 0
 Outcome edge P L U L′ U′ Same = Did edge P L U L′ U′ false

@@ -1,13 +1,16 @@
 // The rules across the values at each prefix, by sums over the values that are held in scalars.
 // The contracts cite specs/Answer.antt, and `SumsAre`, `Across` and `Columns` of closing_model's specs/Sweep.antt.
+use bands::Banded;
+use bands::band;
 use stores::at;
 use stores::greater;
 use stores::less;
+use stores::lesser;
 use stores::narrow;
 ghost use Prim.Native.Nat.{_+_, _≤_};
 ghost use Rattle.closing_model.specs.Table.{view, size};
 ghost use Rattle.closing_model.specs.Sweep.{SumsAre, Across, Columns};
-ghost use Rattle.columns.specs.Answer.{SumsMatch, Outcome, Fits};
+ghost use Rattle.columns.specs.Answer.{SumsMatch, Outcome, Fits, Between};
 
 // What a run of the rules did: nothing, stored something, or found that no closed table lies within.
 pub enum Sweep {
@@ -97,14 +100,21 @@ fn column(lowers: &mut [u16], uppers: &mut [u16], n: usize, k: usize, t: usize) 
     narrow_column(lowers, uppers, n, k, t, sums.uppers, sums.lowers)
 }
 
-// The rules across the values, at every prefix.
-pub fn columns(lowers: &mut [u16], uppers: &mut [u16], n: usize, k: usize) -> Sweep
-    requires { ⌜ Fits n k (now lowers) (now uppers) ⌝ }
-    ensures { λ r. ⌜ Outcome (size n k) (Columns n k (n + 1)) (now (lowers .entry)) (now (uppers .entry)) (now (lowers .exit)) (now (uppers .exit)) r ⌝ }
+// The rules across the values at each prefix from `from` on and below `end`, one after the other.
+fn each_column(
+    lowers: &mut [u16],
+    uppers: &mut [u16],
+    n: usize,
+    k: usize,
+    from: usize,
+    end: usize,
+) -> Sweep
+    requires { ⌜ Fits n k (now lowers) (now uppers) × (from ≤ end) × (end ≤ n + 1) ⌝ }
+    ensures { λ r. ⌜ Outcome (size n k) (Between n k from end) (now (lowers .entry)) (now (uppers .entry)) (now (lowers .exit)) (now (uppers .exit)) r ⌝ }
 {
     let mut changed = false;
-    let mut t = 0;
-    while t <= n {
+    let mut t = from;
+    while t < end {
         let r = column(lowers, uppers, n, k, t);
         match r {
             Sweep::Crossed => {
@@ -116,6 +126,62 @@ pub fn columns(lowers: &mut [u16], uppers: &mut [u16], n: usize, k: usize) -> Sw
             Sweep::Same => {}
         }
         t += 1;
+    }
+    if changed {
+        return Sweep::Changed;
+    }
+    Sweep::Same
+}
+
+// The same at all of them at once where there are eight of them and their sums fit.
+fn some_columns(
+    lowers: &mut [u16],
+    uppers: &mut [u16],
+    n: usize,
+    k: usize,
+    from: usize,
+    end: usize,
+) -> Sweep
+    requires { ⌜ Fits n k (now lowers) (now uppers) × (from ≤ end) × (end ≤ n + 1) ⌝ }
+    ensures { λ r. ⌜ Outcome (size n k) (Between n k from end) (now (lowers .entry)) (now (uppers .entry)) (now (lowers .exit)) (now (uppers .exit)) r ⌝ }
+{
+    if from + 8 != end {
+        return each_column(lowers, uppers, n, k, from, end);
+    }
+    let r = band(lowers, uppers, n, k, from);
+    match r {
+        Banded::Same => {
+            return Sweep::Same;
+        }
+        Banded::Changed => {
+            return Sweep::Changed;
+        }
+        Banded::Unfit => {
+            return each_column(lowers, uppers, n, k, from, end);
+        }
+    }
+}
+
+// The rules across the values, at every prefix, eight at a time.
+pub fn columns(lowers: &mut [u16], uppers: &mut [u16], n: usize, k: usize) -> Sweep
+    requires { ⌜ Fits n k (now lowers) (now uppers) ⌝ }
+    ensures { λ r. ⌜ Outcome (size n k) (Columns n k (n + 1)) (now (lowers .entry)) (now (uppers .entry)) (now (lowers .exit)) (now (uppers .exit)) r ⌝ }
+{
+    let mut changed = false;
+    let mut t = 0;
+    while t <= n {
+        let end = lesser(t + 8, n + 1);
+        let r = some_columns(lowers, uppers, n, k, t, end);
+        match r {
+            Sweep::Crossed => {
+                return Sweep::Crossed;
+            }
+            Sweep::Changed => {
+                changed = true;
+            }
+            Sweep::Same => {}
+        }
+        t = end;
     }
     if changed {
         return Sweep::Changed;

@@ -1,16 +1,14 @@
 -- `columns::columns` meets its contract. The invariant of its loop: t is at most n + 1, and the run so far kept the rules across the
--- values, which hold at the prefixes below t where nothing was stored. The measure is n + 1 less t. `columns-turn` is the turn.
+-- values, which hold at the prefixes below t where nothing was stored. The measure is n + 1 less t. `columns-more` is the turn.
 -- Assumes nothing.
 use mathlib.Core.Path.{_≡_, refl, _∙_}
-use mathlib.Core.Logic.{⊎-elim}
 use Prim.Native.Nat.{_+_, _-_, _≤_}
 use native.Mathlib.Omega.{arith}
 use borrow.Author.Needs.{needs}
 use Rattle.closing_model.specs.Table.{size}
 use Rattle.closing_model.specs.Sweep.{Columns, Ran}
 use Rattle.closing_model.proofs.RanLaws.{ran-none, or-when, or-else}
-use Rattle.closing_model.proofs.AcrossLaws.{columns-turn, columns-none}
-use Rattle.columns.proofs.AnswerLaws.{outcome-same, outcome-changed, outcome-crossed}
+use Rattle.columns.proofs.AnswerLaws.{outcome-same, outcome-changed, outcome-crossed, ran-empty, columns-more}
 use Rattle.columns.proofs.columns.Statement.{statement}
 use Rattle.columns.proofs.columns.Tie as tie
 
@@ -22,63 +20,84 @@ abbrev μ-loop : tie.MeasureT-loop
 μ-loop lowers₀ uppers₀ n k changed₀ t₀ lowers uppers changed t = n + 1 - t
 
 loop-holds : tie.Need-loop-holds Inv-loop μ-loop
-loop-holds c = (omega arith, ran-none _ _ _ _ _ (λ i i<0. absurd (omega arith)))
+loop-holds c =
+    (omega arith, ran-none _ _ _ _ _ (λ i i<0. absurd (omega arith)))
 
-column-requires : tie.Need-column-requires Inv-loop μ-loop
-column-requires c κs =
-    let start = c .before .before .before .before .before .before in (
-      record {
-        prefixes = start .pre .prefixes;
-        values = start .pre .values;
-        lowers = c .before .before .before .loop .inv .1 .sizeL ∙ start .pre .lowers;
-        uppers = c .before .before .before .loop .inv .1 .sizeU ∙ start .pre .uppers;
-      },
-      c .before .before .loop-test .taken,
-    )
+add-lesser : tie.Need-add-lesser Inv-loop μ-loop
+add-lesser c =
+    omega (arith, c .loop-test .taken, c .before .before .before .before .pre .prefixes)
+
+add-lesser-2 : tie.Need-add-lesser-2 Inv-loop μ-loop
+add-lesser-2 c =
+    omega (arith, c .before .before .before .before .pre .prefixes)
+
+lesser-requires : tie.Need-lesser-requires Inv-loop μ-loop
+lesser-requires c κs =
+    tt
+
+some-columns-requires : tie.Need-some-columns-requires Inv-loop μ-loop
+some-columns-requires c κs = (
+  record {
+    prefixes = c .before .before .before .before .before .before .before .pre .prefixes;
+    values = c .before .before .before .before .before .before .before .pre .values;
+    lowers = c .before .before .before .before .loop .inv .1 .sizeL ∙ c .before .before .before .before .before .before .before .pre .lowers;
+    uppers = c .before .before .before .before .loop .inv .1 .sizeU ∙ c .before .before .before .before .before .before .before .pre .uppers;
+  },
+  omega (arith, c .before .before .before .loop-test .taken, c .before .before .lesser .ensures),
+  omega (arith, c .before .before .lesser .ensures),
+)
 
 enum-told : tie.Need-enum-told Inv-loop μ-loop
-enum-told c = search needs
+enum-told c =
+    search needs
 
 same-length : tie.Need-same-length Inv-loop μ-loop
 same-length c =
-    omega (arith, c .before .before .before .before .before .before .column .kept, c .before .before .before .before .before .before .before .before .before .before .loop .inv .1)
+    omega (arith, c .before .before .before .before .before .before .some-columns .kept, c .before .before .before .before .before .before .before .before .before .before .before .loop .inv .1)
 
 same-length-2 : tie.Need-same-length-2 Inv-loop μ-loop
 same-length-2 c =
-    omega (arith, c .before .before .before .before .before .before .column .kept, c .before .before .before .before .before .before .before .before .before .before .loop .inv .1)
+    omega (arith, c .before .before .before .before .before .before .some-columns .kept, c .before .before .before .before .before .before .before .before .before .before .before .loop .inv .1)
 
 returns : tie.Need-returns Inv-loop μ-loop
 returns c =
-    columns-none _ _ _ (c .before .before .before .before .before .before .before .before .before .loop-test .taken) (c .before .before .before .before .before .before .before .before .before .before .loop .inv .1) (outcome-crossed _ _ _ _ _ _ (c .enum-told .given .1) (c .before .before .before .before .before .before .column .ensures))
+    ran-empty (c .before .before .before .before .before .before .before .before .before .before .before .loop .inv .1) (λ T rules i t≤i i<end. rules i (omega (arith, c .before .before .before .before .before .before .before .before .before .lesser .ensures))) (outcome-crossed _ _ _ _ _ _ (c .enum-told .given .1) (c .before .before .before .before .before .before .some-columns .ensures))
 
 enum-told-2 : tie.Need-enum-told-2 Inv-loop μ-loop
-enum-told-2 c = search needs
+enum-told-2 c =
+    search needs
 
 enum-told-3 : tie.Need-enum-told-3 Inv-loop μ-loop
-enum-told-3 c = search needs
-
-add-t : tie.Need-add-t Inv-loop μ-loop
-add-t c =
-    omega (arith, c .before .before .before .before .before .before .before .before .before .before .before .before .pre, c .before .before .before .before .before .before .before .before .loop-test)
+enum-told-3 c =
+    search needs
 
 loop-less : tie.Need-loop-less Inv-loop μ-loop
-loop-less c = omega (arith, c .before .before .before .before .before .before .before .before .loop-test)
+loop-less c =
+    omega (arith, c .before .before .before .before .before .before .before .before .before .before .loop-test .taken, c .before .before .before .before .before .before .before .before .before .lesser .ensures)
 
 loop-again : tie.Need-loop-again Inv-loop μ-loop
-loop-again c =
-    let turn = c .before .before .before .before .before .before .before .before .before in (
-      omega (arith, c .before .before .before .before .before .before .before .before .loop-test),
-      ⊎-elim
-          (λ w. columns-turn _ _ _ (c .before .before .before .before .before .before .before .before .loop-test .taken) (turn .loop .inv .1) (outcome-changed (w .1 .given .1) (c .before .before .before .before .before .column .ensures)) (or-when (turn .loop .changed) refl (w .2)))
-          (λ w. columns-turn _ _ _ (c .before .before .before .before .before .before .before .before .loop-test .taken) (turn .loop .inv .1) (outcome-same (w .1 .given .1) (c .before .before .before .before .before .column .ensures)) (or-else (turn .loop .changed) refl (w .2)))
-          (c .match .came),
-    )
+loop-again c = (
+  omega (arith, c .before .before .before .before .before .before .before .before .before .lesser .ensures),
+  columns-more _ _ _ _ (omega (arith, c .before .before .before .before .before .before .before .before .before .lesser .ensures)) (c .before .before .before .before .before .before .before .before .before .before .before .loop .inv .1) (outcome-changed (c .enum-told2 .given .1) (c .before .before .before .before .before .before .some-columns .ensures)) (or-when (c .before .before .before .before .before .before .before .before .before .before .before .loop .changed) refl refl),
+)
+
+loop-less-2 : tie.Need-loop-less-2 Inv-loop μ-loop
+loop-less-2 c =
+    omega (arith, c .before .before .before .before .before .before .before .before .before .before .loop-test .taken, c .before .before .before .before .before .before .before .before .before .lesser .ensures)
+
+loop-again-2 : tie.Need-loop-again-2 Inv-loop μ-loop
+loop-again-2 c = (
+  omega (arith, c .before .before .before .before .before .before .before .before .before .lesser .ensures),
+  columns-more _ _ _ _ (omega (arith, c .before .before .before .before .before .before .before .before .before .lesser .ensures)) (c .before .before .before .before .before .before .before .before .before .before .before .loop .inv .1) (outcome-same (c .enum-told3 .given .1) (c .before .before .before .before .before .before .some-columns .ensures)) (or-else (c .before .before .before .before .before .before .before .before .before .before .before .loop .changed) refl refl),
+)
 
 same-length-3 : tie.Need-same-length-3 Inv-loop μ-loop
-same-length-3 c = omega arith
+same-length-3 c =
+    c .before .before .loop .inv .1 .sizeL
 
 same-length-4 : tie.Need-same-length-4 Inv-loop μ-loop
-same-length-4 c = omega arith
+same-length-4 c =
+    c .before .before .loop .inv .1 .sizeU
 
 returns-2 : tie.Need-returns-2 Inv-loop μ-loop
 returns-2 c =
@@ -86,10 +105,12 @@ returns-2 c =
     rw (whole, c .if1 .taken) at (c .before .before .loop .inv .1)
 
 same-length-5 : tie.Need-same-length-5 Inv-loop μ-loop
-same-length-5 c = omega arith
+same-length-5 c =
+    c .before .before .loop .inv .1 .sizeL
 
 same-length-6 : tie.Need-same-length-6 Inv-loop μ-loop
-same-length-6 c = omega arith
+same-length-6 c =
+    c .before .before .loop .inv .1 .sizeU
 
 returns-3 : tie.Need-returns-3 Inv-loop μ-loop
 returns-3 c =
@@ -103,16 +124,20 @@ columns-spec =
     Inv-loop
     μ-loop
     loop-holds
-    column-requires
+    add-lesser
+    add-lesser-2
+    lesser-requires
+    some-columns-requires
     enum-told
     same-length
     same-length-2
     returns
     enum-told-2
     enum-told-3
-    add-t
     loop-less
     loop-again
+    loop-less-2
+    loop-again-2
     same-length-3
     same-length-4
     returns-2

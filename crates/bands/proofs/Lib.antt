@@ -1,0 +1,3 @@
+pub mod BandLaws
+mod SumsLaws
+mod TurnLaws
