@@ -3,15 +3,16 @@
 // specs/Sweep.antt.
 use stores::at;
 use stores::entry;
+use stores::greater;
 use stores::greater16;
-use stores::less;
 use stores::less16;
 use stores::lower_to;
 use stores::raise;
-ghost use Prim.Native.Nat.{_+_, _<_};
+ghost use mathlib.Core.Path.{_≡_};
+ghost use Prim.Native.Nat.{_+_, _-_, _<_};
 ghost use lib.ListN.{length, getD};
 ghost use Rattle.closing_model.specs.Table.{view};
-ghost use Rattle.closing_model.specs.Sweep.{Did, Passed, Decides, Stairs, Fwds, Bwds, Line};
+ghost use Rattle.closing_model.specs.Sweep.{raised, Did, Passed, Decides, Stairs, Fwds, Bwds, Line};
 ghost use Rattle.lines.specs.Cross.{CrossAnswer};
 
 // Whether each entry of a line is the one before or one more: by the steepest rise and the steepest fall, without a branch in the loop.
@@ -64,7 +65,7 @@ fn forward_pass(lowers: &mut [u16], uppers: &mut [u16], base: usize, n: usize)
     }
 }
 
-// One value's line, from its end to its start, with the bounds at t in a and b.
+// One value's line, from its end to its start, with the upper at t in b, and in a the lower there and d, the distance to the end, together.
 fn backward_pass(lowers: &mut [u16], uppers: &mut [u16], base: usize, n: usize)
     requires { ⌜ (base + n < length (now lowers)) × (base + n < length (now uppers)) ⌝ }
     ensures { λ r. ⌜ Passed (base + n + 1) (Bwds base 0 n) (now (lowers .entry)) (now (uppers .entry)) (now (lowers .exit)) (now (uppers .exit)) ⌝ }
@@ -72,11 +73,24 @@ fn backward_pass(lowers: &mut [u16], uppers: &mut [u16], base: usize, n: usize)
     let mut a = at(lowers, base + n);
     let mut b = at(uppers, base + n);
     let mut t = n;
+    let mut d = 0;
     while 0 < t {
         t -= 1;
-        a = raise(lowers, base + t, less(a, 1));
+        d += 1;
+        a = raise_less(lowers, base + t, a, d);
         b = lower_to(uppers, base + t, b);
     }
+}
+
+// Raises the entry at p to x less d where it is below, and returns the entry and d together: of use where d grows from call to call, since the next
+// number waits for one comparison alone. It stores without a branch.
+fn raise_less(s: &mut [u16], p: usize, x: usize, d: usize) -> usize
+    requires { ⌜ (p < length (now s)) × (d < length (now s)) × (x < 65536 + d) ⌝ }
+    ensures { λ r. ⌜ (now (s .exit) ≡ raised (now (s .entry)) p (x - d)) × (r ≡ getD (now (s .exit)) p 0 + d) × (r < 65536 + d) ⌝ }
+{
+    let y = greater(at(s, p) + d, x);
+    s[p] = (y - d) as u16;
+    y
 }
 
 // One value's line, both ways, and whether it changed. Where the line keeps its rules no pass is made; where it does not, one stores.
