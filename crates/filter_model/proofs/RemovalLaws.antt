@@ -4,14 +4,14 @@
 use mathlib.Core.Path.{_≡_, refl, sym, ap, _∙_}
 use mathlib.Core.Bool.{Bool, true, false}
 use mathlib.Core.List.{List}
-use Prim.Native.Nat.{ℕ, _+_, _*_, _≤_, _<_, zero-le}
+use Prim.Native.Nat.{ℕ, _+_, _*_, _%_, _≤_, _<_, zero-le}
 use native.Mathlib.Omega.{arith}
 use lib.Count.{ones}
 use lib.ListN.{length, getD, set, length-set}
 use lib.Seq.{getD-set-same}
 use Rattle.domains.specs.Mask.{Fixed, clearBit}
 use Rattle.domains.specs.Masks.{HasAt}
-use Rattle.domains.proofs.MaskLaws.{testBit-clearBit-same, ones-empty, ones-clearBit}
+use Rattle.domains.proofs.MaskLaws.{testBit-clearBit-same, ones-empty, ones-clearBit, fixed-single}
 use Rattle.segments_model.specs.Part.{part, Lent}
 use Rattle.segments_model.specs.Raise.{risen}
 use Rattle.segments_model.proofs.PartLaws.{over-back}
@@ -73,6 +73,13 @@ module _ {masks cells trail : List ℕ} {n k top slot v : ℕ} (ready : Ready ma
     pub low-tag : g ≤ 3
     low-tag = low-raised .raisable .known
 
+    -- the strike's tag h is that of the fall, and 4 more or not
+    low-back : (h : ℕ) → h % 4 ≡ g → RowRaised n v slot (h % 4) x cells₁ cells
+    low-back h h-is = rw h-is low-raised
+
+    left-ones : ones (getD after slot 0) ≡ ones m
+    left-ones = ap ones (left-at ∙ sym m-is)
+
     module _ {masks′ : List ℕ} (masks-are : masks′ ≡ set masks slot m) where
       cut-masks : masks′ ≡ after
       cut-masks = masks-are ∙ ap (λ (y : ℕ). set masks slot y) m-is
@@ -87,9 +94,11 @@ module _ {masks cells trail : List ℕ} {n k top slot v : ℕ} (ready : Ready ma
               value-in = ready .value-in;
               lacks = rw left-at (testBit-clearBit-same (getD masks slot 0) v);
               masks-are = sym (putIn-strike masks slot v (ready-slot ready) has);
+              single = λ four. absurd (omega (arith, low-tag));
+              several = λ below one. many (sym left-ones ∙ one);
               between = cells₁;
               upper = record { fixed = λ w fixed. absurd (many-free m many w (m-is ∙ sym left-at ∙ fixed)); free = λ none. refl };
-              lower = low-raised;
+              lower = low-back g (omega (arith, low-tag));
             }
 
         pub removed-plain : (ones m ≡ 1 → ⊥) → Removed n k masks cells trail top masks′ cells₁ trail′ slot v x a 0 0 0
@@ -106,7 +115,8 @@ module _ {masks cells trail : List ℕ} {n k top slot v : ℕ} (ready : Ready ma
                   (free true v z z-is z≤slot) (λ w fixed. many-free m many w (m-is ∙ fixed));
             })
 
-        -- ---- w is the only value that is left
+      -- ---- w is the only value that is left
+      module _ {trail′ : List ℕ} (trail-is : trail′ ≡ written n trail top slot v (g + 4) x) where
         module _ {cells₂ : List ℕ} (w : ℕ) {u b f y : ℕ} (single : Fixed m w) (u-is : u ≡ getD cells ((k + w) * (n + 1)) 0) (u≤slot : u ≤ slot)
             (lent₂ : Lent ((k + w) * (n + 1)) (n + 1) (λ l l′. Dropped n slot l l′ b f y) cells₁ cells₂) where
           w<k : w < k
@@ -124,16 +134,18 @@ module _ {masks cells trail : List ℕ} {n k top slot v : ℕ} (ready : Ready ma
           high-tag = high-raised .raisable .known
 
           module _ {trail″ : List ℕ} (note-is : trail″ ≡ noted n trail′ slot f y) where
-            taken-single : TakenBack n k (noted n (written n trail top slot v g x) slot f y) slot v g x after cells₂ masks cells
+            taken-single : TakenBack n k (noted n (written n trail top slot v (g + 4) x) slot f y) slot v (g + 4) x after cells₂ masks cells
             taken-single =
-                let on = written n trail top slot v g x in
-                let long : 2 * n ≤ length on = omega (arith, written-size n trail top slot v g x, ready-room ready has) in
+                let on = written n trail top slot v (g + 4) x in
+                let long : 2 * n ≤ length on = omega (arith, written-size n trail top slot v (g + 4) x, ready-room ready has) in
                 record {
                   slot-in = ready .slot-in;
                   inside = omega (arith, length-set masks slot (clearBit (getD masks slot 0) v), ready-slot ready);
                   value-in = ready .value-in;
                   lacks = rw left-at (testBit-clearBit-same (getD masks slot 0) v);
                   masks-are = sym (putIn-strike masks slot v (ready-slot ready) has);
+                  single = λ four. left-ones ∙ fixed-single m w single;
+                  several = λ below. absurd (omega arith);
                   between = cells₁;
                   upper = record {
                     fixed = λ q fixed.
@@ -141,7 +153,7 @@ module _ {masks cells trail : List ℕ} {n k top slot v : ℕ} (ready : Ready ma
                         rw (same, noted-note n on slot f y (ready .slot-in) long, noted-tag n on slot f y (ready .slot-in) long) (w<k, high-raised);
                     free = λ none. absurd (none w (left-at ∙ sym m-is ∙ single));
                   };
-                  lower = low-raised;
+                  lower = low-back (g + 4) (omega (arith, low-tag));
                 }
 
             pub removed-single : Removed n k masks cells trail top masks′ cells₂ trail″ slot v x a y b w

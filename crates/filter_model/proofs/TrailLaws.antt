@@ -106,6 +106,8 @@ module _ {n k : ℕ} {trail : List ℕ} {slot v g x : ℕ} {M′ c′ M c : List
         value-in = taken .value-in;
         lacks = taken .lacks;
         masks-are = taken .masks-are;
+        single = taken .single;
+        several = taken .several;
         between = taken .between;
         upper = record { fixed = λ w fixed. rw (same w fixed .0, same w fixed .1) (taken .upper .fixed w fixed); free = taken .upper .free };
         lower = taken .lower;

@@ -1,14 +1,15 @@
 -- The trail, a list of bytes: first two for each of the n slots, the note (byte s) and the tag (byte n + s) of the upper fall that was made when the
--- slot got its only value; then three for each value that was struck, the latest on top: the slot, the value with 32 times the tag of the lower
--- fall, and that fall's note. What a tag and a note tell is in segments_model's `specs/Raise.antt`.
+-- slot got its only value; then three for each value that was struck, the latest on top: the slot, the value with 32 times the strike's tag, and
+-- the note of the lower fall. A strike's tag is that of the lower fall, and 4 more just where the strike left the slot one value. What a fall's tag
+-- and note tell is in segments_model's `specs/Raise.antt`.
 --   slotAt, valueAt, tagAt, noteAt   what the three bytes of the strike i tell
---   written n trail i ..       the trail with the strike i written: tag g and note x
+--   written n trail i ..       the trail with the strike i written: its tag g and note x
 --   noted n trail slot g x     the trail with the slot's own tag g and note x
 --   putIn M slot v             M with v put into the slot
 --   RowRaised n row slot g x ..  the row's fall after the slot is taken back by the tag g and the note x
 --   UpperRaised n k trail ..   where the slot is fixed in M′, the fall of that value's upper row is taken back
---   TakenBack n k trail ..     a strike of v at the slot is taken back, from M′ and cells′ to M and cells: such an upper fall, then the fall of v's
---                              lower row, and v is put in
+--   TakenBack n k trail ..     a strike of v at the slot, with the tag g and the note x, is taken back, from M′ and cells′ to M and cells: such an
+--                              upper fall, then the fall of v's lower row, and v is put in
 --   StrikeBack n k trail i     the strike i is taken back
 --   Restores n k trail from j  the j strikes from `from` on, taken back the latest first, lead from M′ and cells′ to M and cells
 --   Kept n M trail h trail′    the strikes below h are the same, and the notes and tags of the slots that have one value, or none, in M
@@ -61,10 +62,13 @@ pub record TakenBack (n k : ℕ) (trail : List ℕ) (slot v g x : ℕ) (M′ cel
   pub value-in : v < k
   pub lacks : LacksAt M′ slot v
   pub masks-are : M ≡ putIn M′ slot v
+  -- the tag tells whether one value is left
+  pub single : 4 ≤ g → ones (getD M′ slot 0) ≡ 1
+  pub several : g < 4 → ones (getD M′ slot 0) ≡ 1 → ⊥
   -- the cells between the two
   pub between : List ℕ
   pub upper : UpperRaised n k trail M′ slot cells′ between
-  pub lower : RowRaised n v slot g x between cells
+  pub lower : RowRaised n v slot (g % 4) x between cells
 
 abbrev pub StrikeBack : ℕ → ℕ → List ℕ → ℕ → List ℕ → List ℕ → List ℕ → List ℕ → Type 0
 StrikeBack n k trail i M′ cells′ M cells = TakenBack n k trail (slotAt n trail i) (valueAt n trail i) (tagAt n trail i) (noteAt n trail i) M′ cells′ M cells

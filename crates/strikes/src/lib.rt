@@ -65,7 +65,7 @@ pub fn strike_one(
     }
     store(masks, slot, m);
     let low = fall_row(cells, v, n, slot);
-    push(trail, n, top, slot, v, low.tag, low.note);
+    push(trail, n, top, slot, v, low.tag + 4, low.note);
     let high = fall_row(cells, k + w, n, slot);
     note_fixed(trail, n, slot, high.tag, high.note);
     Removal::Made(low.note, low.reach, high.note, high.reach, w)
@@ -199,9 +199,9 @@ fn store(masks: &mut [u32], slot: usize, m: u32)
     masks[slot] = m;
 }
 
-// Writes the struck value on the trail, with the tag and the note of its lower row's fall.
+// Writes the struck value on the trail, with the strike's tag and the note of its lower row's fall.
 fn push(trail: &mut [u8], n: usize, top: usize, slot: usize, v: u32, tag: usize, note: usize)
-    requires { ⌜ (2 * n + 3 * top + 2 < length (now trail)) × (slot < 256) × (v < 32) × (tag ≤ 3) × (note < 256) ⌝ }
+    requires { ⌜ (2 * n + 3 * top + 2 < length (now trail)) × (slot < 256) × (v < 32) × (tag ≤ 7) × (note < 256) ⌝ }
     ensures { λ _. ⌜ now (trail .exit) ≡ written n (now (trail .entry)) top slot v tag note ⌝ }
 {
     let p = 2 * n + 3 * top;

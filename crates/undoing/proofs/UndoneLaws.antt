@@ -1,18 +1,21 @@
--- The laws of `specs/Undone.antt`: one strike (`upper-undone`, `strike-undone`), the strikes one by one (`putting-start`, `putting-next`,
+-- The laws of `specs/Undone.antt`: one strike (`upper-undone`, `strike-undone`; `strike-lifted`, the common one), the strikes one by one (`putting-start`, `putting-next`,
 -- `putting-step`, `putting-end`), and what a session cites: after any call of the filter, Live or Dead, its strikes may be taken back
 -- (`moved-undoable`), and that gives the masks and the cells at its entry (`moved-undone`). No contract cites this file. Assumes nothing.
-use mathlib.Core.Path.{_≡_, refl, sym, _∙_}
+use mathlib.Core.Path.{_≡_, refl, sym, ap, _∙_}
 use mathlib.Core.List.{List}
-use Prim.Native.Nat.{ℕ, suc, _+_, _-_, _*_, _≤_, _<_}
+use Prim.Native.Nat.{ℕ, suc, _+_, _-_, _*_, _/_, _%_, _≤_, _<_}
 use native.Mathlib.Nat.{le-refl}
 use native.Mathlib.Omega.{arith}
 use lib.Count.{ones}
-use lib.ListN.{length, getD}
+use lib.ListN.{length, getD, set, take, drop, length-set}
+use lib.Seq.{getD-set-other, take-set-lt, drop-set-add, getD-take, getD-drop}
 use Rattle.domains.specs.Mask.{Fixed}
 use Rattle.domains.specs.Masks.{FixedAt}
 use Rattle.settling_model.specs.Settled.{LacksAt}
-use Rattle.segments_model.specs.Part.{over}
-use Rattle.segments_model.specs.Raise.{risen}
+use Rattle.segments_model.specs.Part.{part, over}
+use Rattle.segments_model.specs.Raise.{lifted, risen}
+use Rattle.segments_model.proofs.PartLaws.{over-lent}
+use Rattle.segments_model.proofs.RaiseLaws.{risen-lowered}
 use Rattle.filter_model.specs.State.{World, Moved}
 use Rattle.filter_model.specs.Trail.{slotAt, valueAt, tagAt, noteAt, putIn, RowRaised, UpperRaised, TakenBack, Restores}
 use Rattle.filter_model.proofs.RowLaws.{row-inside}
@@ -22,6 +25,9 @@ use Rattle.filter_model.proofs.TrailLaws.{Next, restores-next, restores-done}
 use Rattle.undoing.specs.Undone.{Sizes, RowUndoing, UpperUndoing, UpperUndone, StrikeUndoing, StrikeUndone, Undoable, Undone}
 
 -- ---- one row
+row-at : (n row : ℕ) (cells : List ℕ) (i : ℕ) → i < n + 1 → getD (part (row * (n + 1)) (n + 1) cells) i 0 ≡ getD cells (row * (n + 1) + i) 0
+row-at n row cells i inside = getD-take (n + 1) (drop (row * (n + 1)) cells) i 0 inside ∙ getD-drop (row * (n + 1)) cells i 0
+
 row-undoing : {masks cells cells₁ cells₂ : List ℕ} {n k slot g x : ℕ} (row : ℕ) → Sizes masks cells n k → slot < n → row < k + k
     → length cells₁ ≡ length cells → RowRaised n row slot g x cells₁ cells₂ → RowUndoing cells₁ row n slot g x
 row-undoing {n = n} {k = k} row sizes slot<n row-in size raised =
@@ -31,6 +37,24 @@ row-undoing {n = n} {k = k} row sizes slot<n row-in size raised =
       slots-fit = omega (arith, sizes .slots-fit);
       raisable = raised .raisable;
     }
+
+-- a right end is raised in its place among all cells
+row-lifted : (n row slot : ℕ) {g x : ℕ} (cells : List ℕ) → row * (n + 1) + n < length cells → g ≡ 0 → x < n
+    → lifted (row * (n + 1) + (x + 1)) cells ≡ over (row * (n + 1)) (n + 1) (risen n slot g x) cells
+row-lifted n row slot {g} {x} cells row-in lowered x<n =
+    let base = row * (n + 1) in
+    let at = base + (x + 1) in
+    let more = getD cells at 0 + 1 in
+    let here : getD (part base (n + 1) cells) (x + 1) 0 ≡ getD cells at 0 = row-at n row cells (x + 1) (omega arith) in
+    over-lent base (n + 1) (risen n slot g x) {l = cells} (omega arith)
+    (record {
+      does =
+          ap (take (n + 1)) (drop-set-add base cells (x + 1) more) ∙ take-set-lt (n + 1) (drop base cells) (x + 1) more (omega arith)
+          ∙ sym (risen-lowered n slot x (part base (n + 1) cells) lowered ∙ ap (λ (y : ℕ). set (part base (n + 1) cells) (x + 1) (y + 1)) here);
+      size = length-set cells at more;
+      before = λ i before. getD-set-other cells at i more 0 (λ e. absurd (omega arith));
+      after = λ i after. getD-set-other cells at i more 0 (λ e. absurd (omega arith));
+    })
 
 -- ---- the upper fall
 module _ {masks cells trail : List ℕ} {n k slot m : ℕ} (m-is : m ≡ getD masks slot 0) where
@@ -55,30 +79,46 @@ module _ {masks cells trail : List ℕ} {n k slot m : ℕ} (m-is : m ≡ getD ma
           restored = λ before raised. cells-are ∙ rw (g-is, x-is) (sym (raised .fixed w (sym m-is ∙ single) .1 .is));
         }
 
+-- ---- a second byte below 32
+module _ {both b : ℕ} (both-is : both ≡ b) (short : both < 32) where
+  pub short-value : both ≡ b % 32
+  short-value = omega arith
+
+  pub short-several : b / 32 < 4
+  short-several = omega arith
+
+  pub short-tag : b / 32 % 4 ≡ 0
+  short-tag = omega arith
+
 -- ---- one strike; slot, v, the tag g and the note x are what its three bytes tell
 module _ {masks cells trail : List ℕ} {n k i : ℕ} (undoing : StrikeUndoing masks cells trail n k i) {slot v : ℕ}
     (slot-is : slot ≡ slotAt n trail i) (v-is : v ≡ valueAt n trail i) where
   taken : TakenBack n k trail slot v (tagAt n trail i) (noteAt n trail i) masks cells (undoing .old) (undoing .old-cells)
   taken = rw (slot-is, v-is) (undoing .taken)
 
-  pub strike-upper : UpperUndoing masks cells trail n k slot
-  strike-upper =
+  -- the strike left the slot one value, or several
+  pub strike-upper : 4 ≤ tagAt n trail i → UpperUndoing masks cells trail n k slot
+  strike-upper four =
       record {
         sizes = undoing .sizes;
         slot-in = taken .slot-in;
         notes-in = omega (arith, undoing .strike-in);
+        single = taken .single four;
         before = taken .between;
         raised = taken .upper;
       }
 
+  pub strike-several : tagAt n trail i < 4 → UpperUndone masks cells trail n k slot cells
+  strike-several below = upper-undone-free refl (taken .several below)
+
   module _ {cells₁ : List ℕ} (size : length cells₁ ≡ length cells) (upper : UpperUndone masks cells trail n k slot cells₁) where
-    pub strike-row : {g x : ℕ} → g ≡ tagAt n trail i → x ≡ noteAt n trail i → RowUndoing cells₁ v n slot g x
+    pub strike-row : {g x : ℕ} → g ≡ tagAt n trail i % 4 → x ≡ noteAt n trail i → RowUndoing cells₁ v n slot g x
     strike-row g-is x-is =
         rw (g-is, x-is, upper .restored (taken .between) (taken .upper))
         (row-undoing v (undoing .sizes) (taken .slot-in) (omega (arith, taken .value-in)) (rw (upper .restored (taken .between) (taken .upper)) at size)
         (taken .lower))
 
-    pub strike-undone : {g x : ℕ} {cells₂ masks′ : List ℕ} → g ≡ tagAt n trail i → x ≡ noteAt n trail i
+    pub strike-undone : {g x : ℕ} {cells₂ masks′ : List ℕ} → g ≡ tagAt n trail i % 4 → x ≡ noteAt n trail i
         → cells₂ ≡ over (v * (n + 1)) (n + 1) (risen n slot g x) cells₁ → masks′ ≡ putIn masks slot v
         → StrikeUndone masks cells trail n k i masks′ cells₂
     strike-undone g-is x-is cells-are masks-are =
@@ -89,6 +129,25 @@ module _ {masks cells trail : List ℕ} {n k i : ℕ} (undoing : StrikeUndoing m
                 cells-are ∙ rw (g-is, x-is, upper .restored (same .between) (same .upper)) (sym (same .lower .is)),
               );
         }
+
+  -- several values are left, and a right end was lowered
+  module _ (below : tagAt n trail i < 4) (lowered : tagAt n trail i % 4 ≡ 0) {x at : ℕ} (x-is : x ≡ noteAt n trail i)
+      (at-is : at ≡ v * (n + 1) + (x + 1)) where
+    low-row : RowUndoing cells v n slot (tagAt n trail i % 4) x
+    low-row = strike-row refl (strike-several below) refl x-is
+
+    pub strike-lift : (at < length cells) × (getD cells at 0 < 1024)
+    strike-lift =
+        let x<n = low-row .raisable .inside lowered in (
+          omega (arith, x<n, at-is, low-row .row-in),
+          rw (at-is, ← row-at n v cells (x + 1) (omega (arith, x<n))) (low-row .raisable .fits lowered),
+        )
+
+    pub strike-lifted : {cells₂ masks′ : List ℕ} → cells₂ ≡ lifted at cells → masks′ ≡ putIn masks slot v
+        → StrikeUndone masks cells trail n k i masks′ cells₂
+    strike-lifted cells-are masks-are =
+        strike-undone refl (strike-several below) refl x-is
+        (cells-are ∙ rw at-is (row-lifted n v slot cells (low-row .row-in) lowered (low-row .raisable .inside lowered))) masks-are
 
   pub strike-value : v < 32
   strike-value = omega (arith, taken .value-in, undoing .sizes .values-fit)

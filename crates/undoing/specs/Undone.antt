@@ -11,7 +11,8 @@
 use mathlib.Core.Path.{_≡_}
 use mathlib.Core.List.{List}
 use Prim.Native.Nat.{ℕ, _+_, _*_, _-_, _≤_, _<_}
-use lib.ListN.{length}
+use lib.Count.{ones}
+use lib.ListN.{length, getD}
 use Rattle.segments_model.specs.Part.{part}
 use Rattle.segments_model.specs.Raise.{Raisable}
 use Rattle.filter_model.specs.Trail.{UpperRaised, StrikeBack, Restores}
@@ -32,6 +33,7 @@ pub record UpperUndoing (masks cells trail : List ℕ) (n k slot : ℕ) : Type 0
   pub sizes : Sizes masks cells n k
   pub slot-in : slot < n
   pub notes-in : 2 * n ≤ length trail
+  pub single : ones (getD masks slot 0) ≡ 1
   pub before : List ℕ
   pub raised : UpperRaised n k trail masks slot cells before
 

@@ -2,10 +2,10 @@
 // tags and notes, and its value into the masks. Nothing is refused here. The contracts cite `specs/Undone.antt` and filter_model's `specs/Trail.antt`.
 ghost use mathlib.Core.Path.{_≡_};
 ghost use Prim.Native.Nat.{_+_, _*_, _<_};
-ghost use lib.ListN.{length};
+ghost use lib.ListN.{length, getD};
 ghost use Rattle.settling_model.specs.Settled.{LacksAt};
 ghost use Rattle.segments_model.specs.Part.{over};
-ghost use Rattle.segments_model.specs.Raise.{risen};
+ghost use Rattle.segments_model.specs.Raise.{lifted, risen};
 ghost use Rattle.filter_model.specs.Trail.{putIn};
 ghost use Rattle.undoing.specs.Undone.{RowUndoing, UpperUndoing, UpperUndone, StrikeUndoing, StrikeUndone, Undoable, Undone};
 
@@ -29,7 +29,7 @@ pub fn undo(
     }
 }
 
-// Takes the strike i back, the latest that is left.
+// Takes the strike i back, the latest that is left. Most often it lowered a right end and left several values: the first case.
 fn take_back(masks: &mut [u32], cells: &mut [u16], trail: &[u8], n: usize, k: u32, i: usize)
     requires { ⌜ StrikeUndoing (now masks) (now cells) (now trail) n k i ⌝ }
     ensures { λ _. ⌜ StrikeUndone (now (masks .entry)) (now (cells .entry)) (now (trail .entry)) n k i (now (masks .exit)) (now (cells .exit)) ⌝ }
@@ -37,22 +37,34 @@ fn take_back(masks: &mut [u32], cells: &mut [u16], trail: &[u8], n: usize, k: u3
     let p = 2 * n + 3 * i;
     let slot = wide(trail[p]);
     let both = wide(trail[p + 1]);
+    let note = wide(trail[p + 2]);
+    if both < 32 {
+        lift_cell(cells, both * (n + 1) + note + 1);
+        put_in(masks, slot, both as u32);
+        return;
+    }
     let v = (both % 32) as u32;
-    raise_fixed(masks, cells, trail, n, k, slot);
-    raise_row(cells, v, n, slot, both / 32, wide(trail[p + 2]));
+    if 128 <= both {
+        raise_fixed(masks, cells, trail, n, k, slot);
+    }
+    raise_row(cells, v, n, slot, both / 32 % 4, note);
     put_in(masks, slot, v);
 }
 
-// Where the slot is fixed: takes the fall of its value's upper row back.
+// The gap of the right end at this place of the cells is one more.
+fn lift_cell(cells: &mut [u16], at: usize)
+    requires { ⌜ (at < length (now cells)) × (getD (now cells) at 0 < 1024) ⌝ }
+    ensures { λ _. ⌜ now (cells .exit) ≡ lifted at (now (cells .entry)) ⌝ }
+{
+    cells[at] = cells[at] + 1;
+}
+
+// The slot being fixed, takes the fall of its value's upper row back.
 fn raise_fixed(masks: &[u32], cells: &mut [u16], trail: &[u8], n: usize, k: u32, slot: usize)
     requires { ⌜ UpperUndoing (now masks) (now cells) (now trail) n k slot ⌝ }
     ensures { λ _. ⌜ UpperUndone (now (masks .entry)) (now (cells .entry)) (now (trail .entry)) n k slot (now (cells .exit)) ⌝ }
 {
-    let m = masks[slot];
-    if !domains::is_single(m) {
-        return;
-    }
-    let w = domains::single_value(m);
+    let w = domains::single_value(masks[slot]);
     raise_row(
         cells,
         k + w,

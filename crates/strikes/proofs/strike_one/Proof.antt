@@ -1,7 +1,7 @@
 -- `strikes::strike_one` meets its contract: each of its three tests is a law of ContradictionLaws, and each of its two ways to a strike a law of
 -- RemovalLaws; the notes fit a byte, and the tags (`low-note`, `low-tag`, `high-note`, `high-tag`). Assumes nothing.
 use mathlib.Core.Path.{refl, sym, _∙_}
-use Prim.Native.Nat.{_+_}
+use Prim.Native.Nat.{_+_, _≤_}
 use native.Mathlib.Omega.{arith}
 use borrow.Author.Tests.{eqb-true, eqb-false, not-true, not-false}
 use borrow.Author.Needs.{needs}
@@ -68,7 +68,7 @@ push-requires c κs =
     let ready = pre .0 in
     let note = low-note ready (pre .1) _ (without-value .ensures) (if1 .left) (spent .ensures) (if2 .left) (fall-row .ensures .0) in
     let tag = low-tag ready (pre .1) _ (without-value .ensures) (if1 .left) (spent .ensures) (if2 .left) (fall-row .ensures .0) in
-    (ready-room ready (pre .1), ready-byte ready, ready-value ready, tag, note)
+    (ready-room ready (pre .1), ready-byte ready, ready-value ready, omega (arith, tag), note)
 
 same-length-4 : tie.Need-same-length-4
 same-length-4 c = search needs
@@ -143,41 +143,57 @@ fall-row-requires-2 c κs =
       omega (arith, ready .world .slots-fit),
     )
 
+tag-2 : (c : tie.After-struct-known) → c .before .before .before .before .fall-row2 .result .tag ≤ 3
+tag-2 c =
+    let fall-row2 = c .before .before .before .before .fall-row2 in
+    let if2 = c .before .before .before .before .before .before .before .before .before .before .before .before .before .before .before .before .if2 in
+    let spent = c .before .before .before .before .before .before .before .before .before .before .before .before .before .before .before .before .before .spent
+    in
+    let if1 = c .before .before .before .before .before .before .before .before .before .before .before .before .before .before .before .before .before .before
+    .before .if1 in
+    let without-value = c .before .before .before .before .before .before .before .before .before .before .before .before .before .before .before .before .before
+    .before .before .before .without-value in
+    let pre = c .before .before .before .before .before .before .before .before .before .before .before .before .before .before .before .before .before .before
+    .before .before .before .before .before .before .before .pre in
+    low-tag (pre .0) (pre .1) _ (without-value .ensures) (if1 .left) (spent .ensures) (if2 .left) (fall-row2 .ensures .0)
+
+add-push : tie.Need-add-push
+add-push c = omega (arith, tag-2 c)
+
 push-requires-2 : tie.Need-push-requires-2
 push-requires-2 c κs =
-    let fall-row2 = c .before .before .before .fall-row2 in
-    let if2 = c .before .before .before .before .before .before .before .before .before .before .before .before .before .before .before .if2 in
-    let spent = c .before .before .before .before .before .before .before .before .before .before .before .before .before .before .before .before .spent
+    let fall-row2 = c .before .before .before .before .fall-row2 in
+    let if2 = c .before .before .before .before .before .before .before .before .before .before .before .before .before .before .before .before .if2 in
+    let spent = c .before .before .before .before .before .before .before .before .before .before .before .before .before .before .before .before .before .spent
     in
-    let if1 = c .before .before .before .before .before .before .before .before .before .before .before .before .before .before .before .before .before
+    let if1 = c .before .before .before .before .before .before .before .before .before .before .before .before .before .before .before .before .before .before
     .before .if1 in
-    let without-value = c .before .before .before .before .before .before .before .before .before .before .before .before .before .before .before .before
+    let without-value = c .before .before .before .before .before .before .before .before .before .before .before .before .before .before .before .before .before
     .before .before .before .without-value in
-    let pre = c .before .before .before .before .before .before .before .before .before .before .before .before .before .before .before .before .before
+    let pre = c .before .before .before .before .before .before .before .before .before .before .before .before .before .before .before .before .before .before
     .before .before .before .before .before .before .before .pre in
     let ready = pre .0 in
     let note = low-note ready (pre .1) _ (without-value .ensures) (if1 .left) (spent .ensures) (if2 .left) (fall-row2 .ensures .0) in
-    let tag = low-tag ready (pre .1) _ (without-value .ensures) (if1 .left) (spent .ensures) (if2 .left) (fall-row2 .ensures .0) in
-    (ready-room ready (pre .1), ready-byte ready, ready-value ready, tag, note)
+    (ready-room ready (pre .1), ready-byte ready, ready-value ready, omega (arith, tag-2 c), note)
 
 add-fall-row : tie.Need-add-fall-row
 add-fall-row c =
-    let single-value = c .before .before .before .before .before .before .before .before .before .before .before .before .before .before .before .before
+    let single-value = c .before .before .before .before .before .before .before .before .before .before .before .before .before .before .before .before .before
     .single-value in
-    let pre = c .before .before .before .before .before .before .before .before .before .before .before .before .before .before .before .before .before
+    let pre = c .before .before .before .before .before .before .before .before .before .before .before .before .before .before .before .before .before .before
     .before .before .before .before .before .before .before .before .before .before .before .pre in
     omega (arith, pre .0 .world .values-fit, single-value .ensures .0)
 
 fall-row-requires-3 : tie.Need-fall-row-requires-3
 fall-row-requires-3 c κs =
-    let fall-row2 = c .before .before .before .before .before .before .before .fall-row2 in
-    let single-value = c .before .before .before .before .before .before .before .before .before .before .before .before .before .before .before .before
+    let fall-row2 = c .before .before .before .before .before .before .before .before .fall-row2 in
+    let single-value = c .before .before .before .before .before .before .before .before .before .before .before .before .before .before .before .before .before
     .single-value in
-    let without-value = c .before .before .before .before .before .before .before .before .before .before .before .before .before .before .before .before
+    let without-value = c .before .before .before .before .before .before .before .before .before .before .before .before .before .before .before .before .before
     .before .before .before .before .before .before .before .without-value in
-    let pre = c .before .before .before .before .before .before .before .before .before .before .before .before .before .before .before .before .before
+    let pre = c .before .before .before .before .before .before .before .before .before .before .before .before .before .before .before .before .before .before
     .before .before .before .before .before .before .before .before .before .before .before .pre in
-    let args = c .before .before .before .before .before .before .before .before .before .before .before .before .before .before .before .before .before
+    let args = c .before .before .before .before .before .before .before .before .before .before .before .before .before .before .before .before .before .before
     .before .before .before .before .before .before .before .before .before .before .before .args in
     let ready = pre .0 in
     let left = sym (without-value .ensures) ∙ single-value .ensures .1 in
@@ -189,23 +205,23 @@ note-fixed-requires : tie.Need-note-fixed-requires
 note-fixed-requires c κs =
     let fall-row3 = c .before .before .before .fall-row3 in
     let push2 = c .before .before .before .before .before .before .before .push2 in
-    let fall-row2 = c .before .before .before .before .before .before .before .before .before .before .before .fall-row2 in
-    let store2 = c .before .before .before .before .before .before .before .before .before .before .before .before .before .before .before .store2 in
-    let if4 = c .before .before .before .before .before .before .before .before .before .before .before .before .before .before .before .before .before
+    let fall-row2 = c .before .before .before .before .before .before .before .before .before .before .before .before .fall-row2 in
+    let store2 = c .before .before .before .before .before .before .before .before .before .before .before .before .before .before .before .before .store2 in
+    let if4 = c .before .before .before .before .before .before .before .before .before .before .before .before .before .before .before .before .before .before
     .if4 in
-    let spent2 = c .before .before .before .before .before .before .before .before .before .before .before .before .before .before .before .before .before
+    let spent2 = c .before .before .before .before .before .before .before .before .before .before .before .before .before .before .before .before .before .before
     .before .spent2 in
-    let single-value = c .before .before .before .before .before .before .before .before .before .before .before .before .before .before .before .before
+    let single-value = c .before .before .before .before .before .before .before .before .before .before .before .before .before .before .before .before .before
     .before .before .before .before .single-value in
-    let if2 = c .before .before .before .before .before .before .before .before .before .before .before .before .before .before .before .before .before
+    let if2 = c .before .before .before .before .before .before .before .before .before .before .before .before .before .before .before .before .before .before
     .before .before .before .before .before .before .if2 in
-    let spent = c .before .before .before .before .before .before .before .before .before .before .before .before .before .before .before .before .before
+    let spent = c .before .before .before .before .before .before .before .before .before .before .before .before .before .before .before .before .before .before
     .before .before .before .before .before .before .before .spent in
-    let if1 = c .before .before .before .before .before .before .before .before .before .before .before .before .before .before .before .before .before
+    let if1 = c .before .before .before .before .before .before .before .before .before .before .before .before .before .before .before .before .before .before
     .before .before .before .before .before .before .before .before .before .if1 in
-    let without-value = c .before .before .before .before .before .before .before .before .before .before .before .before .before .before .before .before
+    let without-value = c .before .before .before .before .before .before .before .before .before .before .before .before .before .before .before .before .before
     .before .before .before .before .before .before .before .before .before .before .before .without-value in
-    let pre = c .before .before .before .before .before .before .before .before .before .before .before .before .before .before .before .before .before
+    let pre = c .before .before .before .before .before .before .before .before .before .before .before .before .before .before .before .before .before .before
     .before .before .before .before .before .before .before .before .before .before .before .before .before .before .before .pre in
     let ready = pre .0 in
     let note = high-note ready (pre .1) _ (without-value .ensures) (if1 .left) (spent .ensures) (if2 .left) (fall-row2 .ensures .0)
@@ -228,24 +244,24 @@ returns-5 c =
     let note-fixed = c .before .before .note-fixed in
     let fall-row3 = c .before .before .before .before .before .before .fall-row3 in
     let push2 = c .before .before .before .before .before .before .before .before .before .before .push2 in
-    let fall-row2 = c .before .before .before .before .before .before .before .before .before .before .before .before .before .before .fall-row2 in
-    let store2 = c .before .before .before .before .before .before .before .before .before .before .before .before .before .before .before .before .before
+    let fall-row2 = c .before .before .before .before .before .before .before .before .before .before .before .before .before .before .before .fall-row2 in
+    let store2 = c .before .before .before .before .before .before .before .before .before .before .before .before .before .before .before .before .before .before
     .before .store2 in
-    let if4 = c .before .before .before .before .before .before .before .before .before .before .before .before .before .before .before .before .before
+    let if4 = c .before .before .before .before .before .before .before .before .before .before .before .before .before .before .before .before .before .before
     .before .before .before .if4 in
-    let spent2 = c .before .before .before .before .before .before .before .before .before .before .before .before .before .before .before .before .before
+    let spent2 = c .before .before .before .before .before .before .before .before .before .before .before .before .before .before .before .before .before .before
     .before .before .before .before .spent2 in
-    let single-value = c .before .before .before .before .before .before .before .before .before .before .before .before .before .before .before .before
+    let single-value = c .before .before .before .before .before .before .before .before .before .before .before .before .before .before .before .before .before
     .before .before .before .before .before .before .before .single-value in
-    let if2 = c .before .before .before .before .before .before .before .before .before .before .before .before .before .before .before .before .before
+    let if2 = c .before .before .before .before .before .before .before .before .before .before .before .before .before .before .before .before .before .before
     .before .before .before .before .before .before .before .before .before .if2 in
-    let spent = c .before .before .before .before .before .before .before .before .before .before .before .before .before .before .before .before .before
+    let spent = c .before .before .before .before .before .before .before .before .before .before .before .before .before .before .before .before .before .before
     .before .before .before .before .before .before .before .before .before .before .spent in
-    let if1 = c .before .before .before .before .before .before .before .before .before .before .before .before .before .before .before .before .before
+    let if1 = c .before .before .before .before .before .before .before .before .before .before .before .before .before .before .before .before .before .before
     .before .before .before .before .before .before .before .before .before .before .before .before .if1 in
-    let without-value = c .before .before .before .before .before .before .before .before .before .before .before .before .before .before .before .before
+    let without-value = c .before .before .before .before .before .before .before .before .before .before .before .before .before .before .before .before .before
     .before .before .before .before .before .before .before .before .before .before .before .before .before .before .without-value in
-    let pre = c .before .before .before .before .before .before .before .before .before .before .before .before .before .before .before .before .before
+    let pre = c .before .before .before .before .before .before .before .before .before .before .before .before .before .before .before .before .before .before
     .before .before .before .before .before .before .before .before .before .before .before .before .before .before .before .before .before .before
     .pre in
     removed-single (pre .0) (pre .1) _ (without-value .ensures) (if1 .left) (spent .ensures) (if2 .left) (fall-row2 .ensures .0)
@@ -278,6 +294,7 @@ strike-one-spec =
     returns-4
     store-requires-2
     fall-row-requires-2
+    add-push
     push-requires-2
     add-fall-row
     fall-row-requires-3

@@ -29,7 +29,7 @@ push-requires c κs =
     let fall-row = c .before .before .before .before .fall-row in
     let note = thin-note ready (pre .1) _ (fall-row .ensures .1) (pre .2) (c .before .if1 .left) (fall-row .ensures .0) in
     let tag = thin-tag ready (pre .1) _ (fall-row .ensures .1) (pre .2) (c .before .if1 .left) (fall-row .ensures .0) in
-    (ready-room ready (pre .1), ready-byte ready, ready-value ready, tag, omega (arith, note))
+    (ready-room ready (pre .1), ready-byte ready, ready-value ready, omega (arith, tag), omega (arith, note))
 
 store-requires : tie.Need-store-requires
 store-requires c κs = ready-slot (c .before .before .before .before .before .before .before .before .before .before .before .before .before .pre .0)
