@@ -1,2 +1,0 @@
-mod BooksLaws
-mod RunsLaws

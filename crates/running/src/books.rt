@@ -1,5 +1,4 @@
-// From a good book to a session, and the run of a list of calls from there. Nothing is refused here. The contracts cite `specs/BookRan.antt`.
-use crate::Ended;
+// From a good book to a session, and the run of a list of calls from there. Nothing is refused here. The contracts cite running_model's `specs/BookRan.antt`.
 use crate::runs::run;
 use acts::Session;
 use acts::Standing;
@@ -9,9 +8,10 @@ use book::values;
 use book_masks::clear_masks;
 use book_opening::open_book;
 use filter::Outcome;
+use running_model::Ended;
 ghost use mathlib.Core.Path.{_≡_};
 ghost use lib.ListN.{length};
-ghost use Rattle.running.specs.BookRan.{Openable, Opens, BookRunnable, BookRan};
+ghost use Rattle.running_model.specs.BookRan.{Openable, Opens, BookRunnable, BookRan};
 
 // Opens a good book and runs a list of calls from there, with two words for each.
 pub fn run_book(

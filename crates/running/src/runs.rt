@@ -1,4 +1,4 @@
-// A list of calls. The contract says that it does what the plain machine does: `Runs` of `specs/Runs.antt`.
+// A list of calls. The contract says that it does what the plain machine does: `Runs` of running_model's `specs/Runs.antt`.
 use acts::Session;
 use calls::call_at;
 use stepping::step;
@@ -6,7 +6,7 @@ ghost use mathlib.Core.Path.{_≡_};
 ghost use Prim.Native.Nat.{_+_, _*_, _<_};
 ghost use lib.ListN.{length, set};
 ghost use Rattle.session_model.specs.Calls.{callsOf};
-ghost use Rattle.running.specs.Runs.{Runs, Runnable};
+ghost use Rattle.running_model.specs.Runs.{Runs, Runnable};
 
 // Runs a whole list of calls, each on the session that the one before left, and writes two words for each. The session after the last.
 pub fn run(

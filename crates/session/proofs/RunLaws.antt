@@ -11,8 +11,8 @@ use Rattle.answer.specs.declared.Answer.the-variants.{Live, Dead}
 use Rattle.answer.specs.Answer.{wordOf}
 use Rattle.settling_model.specs.Book.{settledBook}
 use Rattle.book_opening.proofs.OpenLaws.{state-room}
-use Rattle.running.specs.BookRan.{opensLive, BookRunnable, BookRan}
-use Rattle.running.specs.declared.Ended.{Ended}
+use Rattle.running_model.specs.BookRan.{opensLive, BookRunnable, BookRan}
+use Rattle.running_model.specs.declared.Ended.{Ended}
 use Rattle.session_fault.specs.Entry.{mostMarks, openedWord, SessionReady, Exactly}
 
 -- ---- SessionReady

@@ -1,4 +1,4 @@
-// Settling from bytes to bytes, at document 01's limits. The contracts cite entries_model's `specs/Entries.antt` and settling's `specs/Settle.antt`.
+// Settling from bytes to bytes, at document 01's limits. The contracts cite entries_model's `specs/Entries.antt` and settle_fault's `specs/Settle.antt`.
 use answer::Answer;
 use answer::word;
 use book::Limits;

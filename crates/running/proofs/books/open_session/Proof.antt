@@ -4,7 +4,7 @@ use mathlib.Core.Path.{_∙_, ap}
 use Prim.Native.Nat.{ℕ}
 use borrow.Author.Needs.{needs}
 use lib.ListN.{replicate}
-use Rattle.running.proofs.BooksLaws.{opens-live, opens-dead}
+use Rattle.running_model.proofs.BooksLaws.{opens-live, opens-dead}
 use Rattle.running.proofs.books.open_session.Statement.{statement}
 use Rattle.running.proofs.books.open_session.Tie as tie
 

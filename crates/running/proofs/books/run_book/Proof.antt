@@ -1,7 +1,7 @@
 -- `running::books::run_book` meets its contract: the list is run from the machine's opening, and demand 3 holds of that machine (`book-ran`). Assumes nothing.
 use native.Mathlib.Omega.{arith}
 use borrow.Author.Needs.{needs}
-use Rattle.running.proofs.BooksLaws.{opened-running, book-ran}
+use Rattle.running_model.proofs.BooksLaws.{opened-running, book-ran}
 use Rattle.running.proofs.books.run_book.Statement.{statement}
 use Rattle.running.proofs.books.run_book.Tie as tie
 

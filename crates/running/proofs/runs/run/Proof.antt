@@ -5,8 +5,8 @@ use Prim.Native.Nat.{_-_, _/_, _≤_}
 use native.Mathlib.Omega.{arith}
 use lib.ListN.{length}
 use Rattle.session_model.specs.Calls.{callsTo}
-use Rattle.running.proofs.RunsLaws.{Lengths, runs-start, runs-running, runs-more}
-use Rattle.running.specs.Runs.{Runs}
+use Rattle.running_model.proofs.RunsLaws.{Lengths, runs-start, runs-running, runs-more}
+use Rattle.running_model.specs.Runs.{Runs}
 use Rattle.running.proofs.runs.run.Statement.{statement}
 use Rattle.running.proofs.runs.run.Tie as tie
 

@@ -30,7 +30,7 @@ use Rattle.session_model.specs.Standing.{opening}
 use Rattle.session_model.specs.State.{Rules, State, wordsOf}
 use Rattle.acts.specs.Given.{standingOf}
 use Rattle.acts.specs.Represents.{Represents}
-use Rattle.running.specs.declared.Ended.{Ended}
+use Rattle.running_model.specs.declared.Ended.{Ended}
 use Rattle.acts.specs.declared.Session.{Session}
 
 abbrev pub tableOf : Option (List ℕ × List ℕ) → Table

@@ -20,7 +20,7 @@ use Rattle.acts.specs.Given.{standingOf}
 use Rattle.acts.specs.Represents.{Running}
 use Rattle.acts.specs.Answers.{Answered}
 use Rattle.stepping.specs.Steps.{Steps}
-use Rattle.running.specs.Runs.{RanTo, Runs}
+use Rattle.running_model.specs.Runs.{RanTo, Runs}
 use Rattle.acts.specs.declared.Session.{Session}
 use Rattle.acts.specs.declared.Stepped.{Stepped}
 

@@ -36,11 +36,11 @@ use Rattle.session_model.proofs.BookRunLaws.{rulesOf-settle, rulesOf-closed, ru
 use Rattle.session_model.proofs.DeadOpeningLaws.{dead-opening}
 use Rattle.session_model.proofs.DemandLaws.{demand3}
 use Rattle.session_model.proofs.RunLaws.{opened-live, opened-dead}
-use Rattle.running.specs.BookRan.{tableOf, bookTable, openedRules, openedState, opensLive, Openable, Opens, BookRan}
+use Rattle.running_model.specs.BookRan.{tableOf, bookTable, openedRules, openedState, opensLive, Openable, Opens, BookRan}
 use Rattle.acts.specs.Given.{standingOf, isShut}
 use Rattle.acts.specs.Represents.{Room, Working, Represents, Running}
-use Rattle.running.specs.Runs.{Runs}
-use Rattle.running.specs.declared.Ended.{Ended}
+use Rattle.running_model.specs.Runs.{Runs}
+use Rattle.running_model.specs.declared.Ended.{Ended}
 use Rattle.acts.specs.declared.Session.{Session}
 use Rattle.acts.specs.declared.Standing.{Standing}
 use Rattle.acts.specs.declared.Standing.the-variants.{OpenedDead, Live, Dead}

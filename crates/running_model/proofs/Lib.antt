@@ -1,0 +1,2 @@
+pub mod BooksLaws
+pub mod RunsLaws
