@@ -14,7 +14,7 @@ use Rattle.filter_model.proofs.RowLaws.{row-inside}
 use Rattle.segments_model.specs.Cells.{standingIn}
 use Rattle.segments_model.specs.Links.{gaps}
 use Rattle.segments_model.specs.Part.{part}
-use Rattle.segments_model.proofs.StandingLaws.{standing-words}
+use Rattle.segments_model.proofs.SlackLaws.{segments-standing}
 use Rattle.segments_model.proofs.SumLaws.{count-bound}
 use Rattle.undoing.specs.Undone.{Undoable, Undone}
 use Rattle.session_model.specs.Calls as Calls
@@ -249,16 +249,16 @@ opened-working {T} {R} {S} {masks} {cells} {trail} {heights} {n} {k} {session} r
 walls-words : {n k : ℕ} {T : Table} {R : Rules} {saved : List (List ℕ)} {masks cells trail heights : List ℕ} {top : ℕ} (kind : Bool) (v : ℕ) → v < k
     → Working T R saved masks cells trail heights n k top → standingIn (gaps (cellsOf kind n k v cells)) n ≡ R .standing kind masks v
 walls-words {n} {k} {T} {R} {masks = masks} {cells = cells} true v v<k working =
-    standing-words n _ _ (cellsOf true n k v cells) (working .mirror .rows true v v<k .held) ∙ sym (working .rules .standing true masks v)
+    segments-standing (working .mirror .rows true v v<k) ∙ sym (working .rules .standing true masks v)
 walls-words {n} {k} {T} {R} {masks = masks} {cells = cells} false v v<k working =
-    standing-words n _ _ (cellsOf false n k v cells) (working .mirror .rows false v v<k .held) ∙ sym (working .rules .standing false masks v)
+    segments-standing (working .mirror .rows false v v<k) ∙ sym (working .rules .standing false masks v)
 
 row-below : {k v : ℕ} (kind : Bool) → v < k → row kind k v < k + k
 row-below true v<k = omega (arith, v<k)
 row-below false v<k = omega (arith, v<k)
 
 -- the row lies within the cells
-pub walls-row : {cells : List ℕ} {n k v start : ℕ} (lower : Bool) → Counting cells n k v → start ≡ row lower k v * (n + 1) → start + n < length cells
+pub walls-row : {cells : List ℕ} {n k v start : ℕ} (lower : Bool) → Counting cells n k v → start ≡ row lower k v * (n + 2) → start + n + 1 < length cells
 walls-row {n = n} {k} {v} lower counting start-is =
     omega (arith, counting .rows, start-is, row-inside n (k + k) (row lower k v) (row-below lower (counting .value-in)))
 
@@ -275,8 +275,8 @@ module _ {cells : List ℕ} {n k v : ℕ} {session : Session} (lower : Bool) whe
             (sym (none .standing lower (S .masks) v));
       }
 
-  pub walls-stand : isShut (session .standing) ≡ false → v < k → (x start : ℕ) → start ≡ row lower k v * (n + 1)
-      → x ≡ standingIn (gaps (part start (n + 1) cells)) n
+  pub walls-stand : isShut (session .standing) ≡ false → v < k → (x start : ℕ) → start ≡ row lower k v * (n + 2)
+      → x ≡ standingIn (gaps (part start (n + 2) cells)) n
       → (masks trail heights : List ℕ) (i : ℕ)
       → Acts n k i (Calls.walls lower v) session masks cells trail heights masks cells trail heights
       (record { session = session; first = 2; second = x })

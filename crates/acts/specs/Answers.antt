@@ -57,7 +57,7 @@ pub record Backing (masks cells trail heights : List ℕ) (n k : ℕ) (session :
   pub marked : 0 < session .marks
 
 pub record Counting (cells : List ℕ) (n k v : ℕ) : Type 0 where
-  pub rows : (k + k) * (n + 1) ≤ length cells
+  pub rows : (k + k) * (n + 2) ≤ length cells
   pub slots-fit : n ≤ 256
   pub values-fit : k ≤ 32
   pub value-in : v < k

@@ -31,7 +31,7 @@ use Rattle.acts.specs.declared.Standing.the-variants.{OpenedDead, Live, 
 
 pub record Room (masks cells trail : List ℕ) (n k : ℕ) : Type 0 where
   pub masks-in : length masks ≡ n
-  pub rows : (k + k) * (n + 1) ≤ length cells
+  pub rows : (k + k) * (n + 2) ≤ length cells
   -- a slot fits a byte of the trail, a value the mask, and a height 16 bits
   pub slots-fit : n ≤ 256
   pub values-fit : k ≤ 32

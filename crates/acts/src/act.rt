@@ -104,12 +104,12 @@ pub fn walls(cells: &[u16], n: usize, k: u32, session: Session, lower: bool, v: 
 // Where the cells of a bound of v start.
 fn row_start(n: usize, k: u32, lower: bool, v: u32) -> usize
     requires { ⌜ (n ≤ 256) × (k ≤ 32) × (v < k) ⌝ }
-    ensures { λ r. ⌜ r ≡ row lower k v * (n + 1) ⌝ }
+    ensures { λ r. ⌜ r ≡ row lower k v * (n + 2) ⌝ }
 {
     if lower {
-        return v as usize * (n + 1);
+        return v as usize * (n + 2);
     }
-    (k + v) as usize * (n + 1)
+    (k + v) as usize * (n + 2)
 }
 
 fn height(heights: &[u16], at: usize) -> usize

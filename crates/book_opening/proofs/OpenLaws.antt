@@ -82,14 +82,14 @@ module _ (b : List ℕ) {L U : List ℕ} (book : ClosedBook b L U) where
 -- ---- StateRoom
 
 -- arrays for 256 slots and 32 values
-pub state-room : {b M : List ℕ} (cells trail L U : List ℕ) → Ready b M → 16448 ≤ length cells → 25088 ≤ length trail → 257 ≤ length L → 257 ≤ length U
+pub state-room : {b M : List ℕ} (cells trail L U : List ℕ) → Ready b M → 16512 ≤ length cells → 25088 ≤ length trail → 257 ≤ length L → 257 ≤ length U
     → StateRoom b M cells trail L U
 state-room {b} cells trail L U ready long-cells long-trail long-L long-U =
     let fit = ready .book in
     record {
       rises = record { book = fit; lowers = omega (arith, fit .slots-most); uppers = omega (arith, fit .slots-most) };
       masks-in = ready .masks;
-      cells-in = le-trans (mul-le-mul {n₂ = 64} {m₂ = 257} (omega (arith, fit .values-most)) (omega (arith, fit .slots-most))) long-cells;
+      cells-in = le-trans (mul-le-mul {n₂ = 64} {m₂ = 258} (omega (arith, fit .values-most)) (omega (arith, fit .slots-most))) long-cells;
       trail-in = omega (arith, mul-le-mul {n₂ = 32} {m₂ = 256} (fit .values-most) (fit .slots-most), fit .slots-most);
     }
 

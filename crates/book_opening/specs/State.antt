@@ -22,7 +22,7 @@ use Rattle.book_rises.specs.BookRises.{RisesRoom}
 pub record StateRoom (b masks cells trail L U : List ℕ) : Type 0 where
   pub rises : RisesRoom b L U
   pub masks-in : length masks ≡ slots b
-  pub cells-in : (values b + values b) * (slots b + 1) ≤ length cells
+  pub cells-in : (values b + values b) * (slots b + 2) ≤ length cells
   pub trail-in : 2 * slots b + 3 * (values b * slots b) ≤ length trail
 
 pub record BookState (b masks cells trail L U : List ℕ) (h : ℕ) : Type 0 where

@@ -1,14 +1,15 @@
-// Building the segments of one value and one kind of bound from the bound's rises and the masks, in one cell for each prefix from 0 to n (the crate
-// `segments` says what a cell holds), from the last corner to the first. `lower` is the kind: true for the lower bound. A broken corner is answered;
-// nothing is refused here. The contracts cite `specs/Built.antt` and the definitions of segments_model.
+// Building the segments of one value and one kind of bound from the bound's rises and the masks, in one cell for each prefix from 0 to n + 1 (the
+// crate `segments` says what a cell holds): first a right end at n + 1 whose slack never runs out, then the corners from the last to the first.
+// `lower` is the kind: true for the lower bound. A broken corner is answered; nothing is refused here. The contracts cite `specs/Built.antt` and the
+// definitions of segments_model.
 ghost use mathlib.Core.Path.{_≡_};
 ghost use mathlib.Core.Bool.{cond};
-ghost use Prim.Native.Nat.{_+_, _<_, _≤_};
+ghost use Prim.Native.Nat.{_+_, _-_, _<_, _≤_};
 ghost use lib.ListN.{length, getD};
 ghost use Rattle.segments_model.specs.Build.{Inserted, Pointed, Counts};
 ghost use Rattle.segments_model.specs.Links.{Fresh};
 ghost use Rattle.segments_model.specs.Part.{Lent};
-ghost use Rattle.building.specs.Built.{Visit, Built};
+ghost use Rattle.building.specs.Built.{Visit, DoneAfter, Built};
 
 // How the building goes on after a prefix: its corner lacks slack, or the first right end is at a place.
 enum Visited {
@@ -18,17 +19,19 @@ enum Visited {
 
 // Fills the cells of one value from its rises and the masks. False where a corner is broken.
 pub fn build(cells: &mut [u16], rises: &[u32], masks: &[u32], n: usize, v: u32, lower: bool) -> bool
-    requires { ⌜ (n < length (now cells)) × (n < length (now rises)) × (n ≤ length (now masks)) × (n < 1024) × (v < 32) ⌝ }
+    requires { ⌜ (n + 1 < length (now cells)) × (n < length (now rises)) × (n ≤ length (now masks)) × (n ≤ 256) × (v < 32) ⌝ }
     ensures { λ r. ⌜ Built lower n v (now (rises .entry)) (now (masks .entry)) (now (cells .entry)) (now (cells .exit)) r ⌝ }
 {
-    blank(cells, n);
+    blank(cells, n + 1);
     let total = corners::count_all(rises, masks, n, v, lower);
     let risen = total.risen;
     let counted = total.counted;
-    fill(cells, rises, masks, n, v, lower, risen, counted)
+    let slack = reserve(lower, n, counted);
+    let first = insert(cells, n + 1, n + 1, slack, n + 2);
+    fill(cells, rises, masks, n, v, lower, risen, counted, first)
 }
 
-// The same for the n + 1 cells from `base` on of a longer list, whose other cells stay.
+// The same for the n + 2 cells from `base` on of a longer list, whose other cells stay.
 pub fn build_in(
     cells: &mut [u16],
     base: usize,
@@ -38,11 +41,11 @@ pub fn build_in(
     v: u32,
     lower: bool,
 ) -> bool
-    requires { ⌜ (base + n < length (now cells)) × (n < length (now rises)) × (n ≤ length (now masks)) × (n < 1024) × (v < 32) ⌝ }
-    ensures { λ r. ⌜ Lent base (n + 1) (λ a b. Built lower n v (now (rises .entry)) (now (masks .entry)) a b r)
+    requires { ⌜ (base + n + 1 < length (now cells)) × (n < length (now rises)) × (n ≤ length (now masks)) × (n ≤ 256) × (v < 32) ⌝ }
+    ensures { λ r. ⌜ Lent base (n + 2) (λ a b. Built lower n v (now (rises .entry)) (now (masks .entry)) a b r)
         (now (cells .entry)) (now (cells .exit)) ⌝ }
 {
-    let end = base + n + 1;
+    let end = base + n + 2;
     build(&mut cells[base..end], rises, masks, n, v, lower)
 }
 
@@ -59,7 +62,19 @@ fn blank(cells: &mut [u16], n: usize)
     }
 }
 
-// Takes the corners from the last to the first, with the line and the count at n, into cells that are empty.
+// The slack of the right end at n + 1, from the count at n.
+fn reserve(lower: bool, n: usize, counted: u32) -> usize
+    requires { ⌜ (n ≤ 256) × (counted ≤ n) ⌝ }
+    ensures { λ r. ⌜ (r ≡ cond lower (n + 2 + counted) (n + 2 + (n - counted))) × (r < 1024) ⌝ }
+{
+    let count = counted as usize;
+    if lower {
+        return n + 2 + count;
+    }
+    n + 2 + (n - count)
+}
+
+// Takes the corners from the last to the first, with the line and the count at n, into cells that hold the right end at n + 1 alone, at `first`.
 fn fill(
     cells: &mut [u16],
     rises: &[u32],
@@ -69,23 +84,24 @@ fn fill(
     lower: bool,
     risen: u32,
     counted: u32,
+    first: usize,
 ) -> bool
-    requires { ⌜ (n < length (now cells)) × (n < length (now rises)) × (n ≤ length (now masks)) × (n < 1024) × (v < 32)
-        × Counts lower (now rises) (now masks) v n risen counted × (getD (now cells) 0 0 ≡ 0) × Fresh n (now cells) ⌝ }
+    requires { ⌜ (n + 1 < length (now cells)) × (n < length (now rises)) × (n ≤ length (now masks)) × (n ≤ 256) × (v < 32)
+        × Counts lower (now rises) (now masks) v n risen counted × DoneAfter lower n (now rises) (now masks) v n (now cells) first ⌝ }
     ensures { λ r. ⌜ Built lower n v (now (rises .entry)) (now (masks .entry)) (now (cells .entry)) (now (cells .exit)) r ⌝ }
 {
     let mut r = risen;
     let mut k = counted;
-    let mut next = n + 1;
+    let mut next = first;
     let mut t = n;
     while 0 < t {
         let corner = corners::corner_at(rises, n, v, lower, t);
         let gained = choose(lower, k, r);
         let lost = choose(lower, r, k);
-        let Visited::Onward(first) = visit(cells, n, t, corner, gained, lost, next) else {
+        let Visited::Onward(end) = visit(cells, n + 1, t, corner, gained, lost, next) else {
             return false;
         };
-        next = first;
+        next = end;
         let s = corners::previous_corner(rises, n, v, lower, t);
         let before = corners::count_back(rises, masks, v, lower, s, t, r, k);
         r = before.risen;

@@ -57,14 +57,14 @@ module _ {masks cells trail : List ℕ} {n k top slot v : ℕ} (ready : Ready ma
         testBit-empty x,
       ))))
 
-  pub contradicted-low : (z : ℕ) → z ≡ getD cells (v * (n + 1)) 0 → slot < z → Contradicted n k masks cells trail masks cells trail slot v
+  pub contradicted-low : (z : ℕ) → z ≡ getD cells (v * (n + 2)) 0 → slot < z → Contradicted n k masks cells trail masks cells trail slot v
   contradicted-low z z-is before =
       unchanged
       (λ T mirror N stable N⊆M cut.
       let fixed = spent-cut mirror true v (ready .value-in) z z-is N stable N⊆M .each slot before has .fixed in
       omega (arith, cut .lacks, ap (λ (m : ℕ). testBit m v) fixed, testBit-fixed-same v))
 
-  pub contradicted-high : (w z : ℕ) → Fixed (clearBit (getD masks slot 0) v) w → z ≡ getD cells ((k + w) * (n + 1)) 0 → slot < z
+  pub contradicted-high : (w z : ℕ) → Fixed (clearBit (getD masks slot 0) v) w → z ≡ getD cells ((k + w) * (n + 2)) 0 → slot < z
       → Contradicted n k masks cells trail masks cells trail slot v
   contradicted-high w z left z-is before =
       unchanged

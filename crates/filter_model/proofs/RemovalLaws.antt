@@ -15,34 +15,33 @@ use Rattle.domains.proofs.MaskLaws.{testBit-clearBit-same, ones-empty, ones-cle
 use Rattle.segments_model.specs.Part.{part, Lent}
 use Rattle.segments_model.specs.Raise.{risen}
 use Rattle.segments_model.proofs.PartLaws.{over-back}
-use Rattle.segments_model.proofs.RaiseLaws.{raisable-note}
 use Rattle.filter_model.specs.Mirror.{row, cellsOf}
 use Rattle.filter_model.specs.State.{Ready, Moved, Removed}
 use Rattle.filter_model.specs.Strike.{Dropped}
 use Rattle.filter_model.specs.Trail.{written, noted, RowRaised, TakenBack, Trailed}
 use Rattle.filter_model.proofs.ContradictionLaws.{left-in}
 use Rattle.filter_model.proofs.RowLaws.{row-inside, row-first, lent-row}
-use Rattle.filter_model.proofs.StateLaws.{moved-strike, ready-slot, ready-value, ready-room}
+use Rattle.filter_model.proofs.StateLaws.{moved-strike, ready-slot, ready-byte, ready-value, ready-room}
 use Rattle.filter_model.proofs.StoreLaws.{many-free, fixed-unique, strike-lacks}
 use Rattle.filter_model.proofs.StruckLaws.{struck-plain, struck-single}
 use Rattle.filter_model.proofs.TrailLaws.{written-size, noted-note, noted-tag, putIn-strike, trailed-plain, trailed-single}
 
 -- a row's fall is taken back by its tag and its note
-row-raised : {n row slot a g x : ℕ} {cells cells′ : List ℕ} (rows : ℕ) → Lent (row * (n + 1)) (n + 1) (λ l l′. Dropped n slot l l′ a g x) cells cells′
-    → row < rows → rows * (n + 1) ≤ length cells → getD (part (row * (n + 1)) (n + 1) cells) 0 0 ≤ slot → RowRaised n row slot g x cells′ cells
+row-raised : {n row slot a g x : ℕ} {cells cells′ : List ℕ} (rows : ℕ) → Lent (row * (n + 2)) (n + 2) (λ l l′. Dropped n slot l l′ a g x) cells cells′
+    → row < rows → rows * (n + 2) ≤ length cells → getD (part (row * (n + 2)) (n + 2) cells) 0 0 ≤ slot → RowRaised n row slot g x cells′ cells
 row-raised {n} {row} {slot} {g = g} {x = x} rows lent row-in fits free =
     record {
       raisable = lent .does .back free .raisable;
       is =
           sym
-          (over-back (row * (n + 1)) (n + 1) (risen n slot g x) (omega (arith, row-inside n rows row row-in))
+          (over-back (row * (n + 2)) (n + 2) (risen (n + 1) slot g x) (omega (arith, row-inside n rows row row-in))
           (record { does = lent .does .back free .back; size = lent .size; before = lent .before; after = lent .after }));
     }
 
 module _ {masks cells trail : List ℕ} {n k top slot v : ℕ} (ready : Ready masks cells trail n k top slot v) (has : HasAt masks slot v)
     (m : ℕ) (m-is : m ≡ clearBit (getD masks slot 0) v) (some : m ≡ 0 → ⊥) where
   -- a slot not before the spent corner z of a row
-  free : (kind : Bool) (x z : ℕ) → z ≡ getD cells (row kind k x * (n + 1)) 0 → z ≤ slot → getD (cellsOf kind n k x cells) 0 0 ≤ slot
+  free : (kind : Bool) (x z : ℕ) → z ≡ getD cells (row kind k x * (n + 2)) 0 → z ≤ slot → getD (cellsOf kind n k x cells) 0 0 ≤ slot
   free kind x z z-is z≤slot = omega (arith, z-is, z≤slot, row-first n (row kind k x) cells)
 
   abbrev after : List ℕ
@@ -61,14 +60,14 @@ module _ {masks cells trail : List ℕ} {n k top slot v : ℕ} (ready : Ready ma
       let left : (ones (clearBit (getD masks slot 0) v) ≡ 0 → ⊥) = λ none. some (m-is ∙ ones-empty (clearBit (getD masks slot 0) v) none) in
       omega (arith, left, ones-clearBit (getD masks slot 0) v, has)
 
-  module _ {cells₁ : List ℕ} {z a g x : ℕ} (z-is : z ≡ getD cells (v * (n + 1)) 0) (z≤slot : z ≤ slot)
-      (lent₁ : Lent (v * (n + 1)) (n + 1) (λ l l′. Dropped n slot l l′ a g x) cells cells₁) where
+  module _ {cells₁ : List ℕ} {z a g x : ℕ} (z-is : z ≡ getD cells (v * (n + 2)) 0) (z≤slot : z ≤ slot)
+      (lent₁ : Lent (v * (n + 2)) (n + 2) (λ l l′. Dropped n slot l l′ a g x) cells cells₁) where
     low-raised : RowRaised n v slot g x cells₁ cells
     low-raised = row-raised (k + k) lent₁ (omega (arith, ready .value-in)) (ready .world .rows) (free true v z z-is z≤slot)
 
     -- the note fits a byte, and the tag what a value leaves of one
     pub low-note : x < 256
-    low-note = omega (arith, raisable-note (low-raised .raisable) (ready .slot-in), ready .world .slots-fit)
+    low-note = lent₁ .does .byte (ready-byte ready)
 
     pub low-tag : g ≤ 3
     low-tag = low-raised .raisable .known
@@ -111,14 +110,14 @@ module _ {masks cells trail : List ℕ} {n k top slot v : ℕ} (ready : Ready ma
               high-in = zero-le;
               value-in = omega (arith, ready .value-in);
               tables = λ T mirror.
-                  struck-plain mirror slot v (ready-slot ready) (ready .value-in) has cells₁ a (ready .world .rows) (λ none. some (m-is ∙ none)) lent₁
+                  struck-plain mirror slot v (ready-slot ready) (ready .value-in) has (ready .slot-in) cells₁ a (ready .world .rows) (λ none. some (m-is ∙ none)) lent₁
                   (free true v z z-is z≤slot) (λ w fixed. many-free m many w (m-is ∙ fixed));
             })
 
       -- ---- w is the only value that is left
       module _ {trail′ : List ℕ} (trail-is : trail′ ≡ written n trail top slot v (g + 4) x) where
-        module _ {cells₂ : List ℕ} (w : ℕ) {u b f y : ℕ} (single : Fixed m w) (u-is : u ≡ getD cells ((k + w) * (n + 1)) 0) (u≤slot : u ≤ slot)
-            (lent₂ : Lent ((k + w) * (n + 1)) (n + 1) (λ l l′. Dropped n slot l l′ b f y) cells₁ cells₂) where
+        module _ {cells₂ : List ℕ} (w : ℕ) {u b f y : ℕ} (single : Fixed m w) (u-is : u ≡ getD cells ((k + w) * (n + 2)) 0) (u≤slot : u ≤ slot)
+            (lent₂ : Lent ((k + w) * (n + 2)) (n + 2) (λ l l′. Dropped n slot l l′ b f y) cells₁ cells₂) where
           w<k : w < k
           w<k = left-in slot v w (ready .world) (sym m-is ∙ single)
 
@@ -128,7 +127,7 @@ module _ {masks cells trail : List ℕ} {n k top slot v : ℕ} (ready : Ready ma
               row-raised (k + k) lent₂ (omega (arith, w<k)) (omega (arith, lent₁ .size, ready .world .rows)) (rw same (free false w u u-is u≤slot))
 
           pub high-note : y < 256
-          high-note = omega (arith, raisable-note (high-raised .raisable) (ready .slot-in), ready .world .slots-fit)
+          high-note = lent₂ .does .byte (ready-byte ready)
 
           pub high-tag : f ≤ 3
           high-tag = high-raised .raisable .known
@@ -166,6 +165,6 @@ module _ {masks cells trail : List ℕ} {n k top slot v : ℕ} (ready : Ready ma
                   high-in = lent₂ .does .inside;
                   value-in = w<k;
                   tables = λ T mirror.
-                      struck-single mirror slot v (ready-slot ready) (ready .value-in) has cells₁ a (ready .world .rows) (λ none. some (m-is ∙ none))
+                      struck-single mirror slot v (ready-slot ready) (ready .value-in) has (ready .slot-in) cells₁ a (ready .world .rows) (λ none. some (m-is ∙ none))
                       lent₁ (free true v z z-is z≤slot) cells₂ w b w<k (sym m-is ∙ single) lent₂ (free false w u u-is u≤slot);
                 })

@@ -17,7 +17,7 @@ use Rattle.settling_model.proofs.StableLaws.{low-cut, high-cut}
 use Rattle.settling_model.proofs.TableBoundsLaws.{stable-keeps}
 use Rattle.segments_model.specs.Cells.{Spent}
 use Rattle.segments_model.specs.Lines.{cornerOf, gain, loss}
-use Rattle.segments_model.proofs.LinksLaws.{held-spent}
+use Rattle.segments_model.proofs.SlackLaws.{segments-spent}
 use Rattle.filter_model.specs.Cuts.{BoundCut}
 use Rattle.filter_model.specs.Mirror.{boundLine, Corner, slackAt, row, Mirror, Quiet, Passed, Progress}
 use Rattle.filter_model.proofs.MirrorLaws.{mirror-kept}
@@ -42,9 +42,9 @@ bound-cut n k T M N false v t v<k t≤n stable N⊆M met =
 
 -- ---- the spent corner z of a row
 module _ {n k : ℕ} {T : Table} {M cells : List ℕ} (mirror : Mirror n k T M cells) (kind : Bool) (v : ℕ) (v<k : v < k) (z : ℕ)
-    (z-is : z ≡ getD cells (row kind k v * (n + 1)) 0) where
+    (z-is : z ≡ getD cells (row kind k v * (n + 2)) 0) where
   pub spent-row : Spent n (cornerOf kind n (boundLine kind n T v)) (slackAt kind n T M v) z
-  spent-row = rw (z-is, ← row-first n (row kind k v) cells) (held-spent (mirror .rows kind v v<k .held))
+  spent-row = rw (z-is, ← row-first n (row kind k v) cells) (segments-spent (mirror .rows kind v v<k))
 
   spent-corner : 0 < z → Corner kind n T v z
   spent-corner 0<z = record { from = 0<z; upto = spent-row .inside; turns = spent-row .corner 0<z }

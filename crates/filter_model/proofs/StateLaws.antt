@@ -78,8 +78,8 @@ world-moved world moved =
     }
 
 -- a row lies within the cells
-pub world-row : {masks cells trail : List ℕ} {n k top : ℕ} → World masks cells trail n k top → (r start : ℕ) → r < k + k → start ≡ r * (n + 1)
-    → start + n < length cells
+pub world-row : {masks cells trail : List ℕ} {n k top : ℕ} → World masks cells trail n k top → (r start : ℕ) → r < k + k → start ≡ r * (n + 2)
+    → start + n + 1 < length cells
 world-row {n = n} {k = k} world r start r<rows start-is = omega (arith, row-inside n (k + k) r r<rows, world .rows, start-is)
 
 -- ---- Ready

@@ -14,9 +14,10 @@ use Rattle.domains.specs.Masks.{HasAt}
 use Rattle.domains.proofs.MaskLaws.{testBit-clearBit-same, testBit-clearBit-other}
 use Rattle.domains.proofs.CountsLaws.{only-fixed, only-free}
 use Rattle.closing_model.specs.Table.{Table}
-use Rattle.segments_model.specs.Lines.{cornerOf, gain, loss, Change}
+use Rattle.segments_model.specs.Lines.{gain, loss, Change, rowCorners, rowSlack}
 use Rattle.segments_model.specs.Part.{Lent}
-use Rattle.filter_model.specs.Mirror.{boundLine, slackAt, row, cellsOf, Mirror, Passed}
+use Rattle.segments_model.proofs.EndLaws.{row-lasts}
+use Rattle.filter_model.specs.Mirror.{boundLine, row, cellsOf, Mirror, Passed}
 use Rattle.filter_model.specs.Strike.{Reach, Dropped, Due, Struck}
 use Rattle.filter_model.proofs.RowLaws.{row-first, Row, row-weaken, row-stays, row-falls, reach-met, lent-row}
 use Rattle.filter_model.proofs.SpentLaws.{bound-cut, spent-passed}
@@ -24,7 +25,7 @@ use Rattle.filter_model.proofs.StoreLaws.{was-free, fixed-unique, strik
 
 -- the strike of v at the slot
 module _ {n k : ℕ} {T : Table} {M cells : List ℕ} (mirror : Mirror n k T M cells) (slot v : ℕ) (inside : slot < length M) (v<k : v < k)
-    (has : HasAt M slot v) where
+    (has : HasAt M slot v) (slot<n : slot < n) where
   abbrev left : ℕ
   left = clearBit (getD M slot 0) v
 
@@ -54,8 +55,8 @@ module _ {n k : ℕ} {T : Table} {M cells : List ℕ} (mirror : Mirror n k T M c
         }
 
   -- ---- the lower row of v
-  module _ (cells₁ : List ℕ) (a : ℕ) {g₁ x₁ : ℕ} (fits : (k + k) * (n + 1) ≤ length cells) (some : left ≡ 0 → ⊥)
-      (lent₁ : Lent (v * (n + 1)) (n + 1) (λ l l′. Dropped n slot l l′ a g₁ x₁) cells cells₁) (free₁ : getD (cellsOf true n k v cells) 0 0 ≤ slot) where
+  module _ (cells₁ : List ℕ) (a : ℕ) {g₁ x₁ : ℕ} (fits : (k + k) * (n + 2) ≤ length cells) (some : left ≡ 0 → ⊥)
+      (lent₁ : Lent (v * (n + 2)) (n + 2) (λ l l′. Dropped n slot l l′ a g₁ x₁) cells cells₁) (free₁ : getD (cellsOf true n k v cells) 0 0 ≤ slot) where
     low-change : Change true (getD M slot 0) left v 1
     low-change = omega (arith, has, testBit-clearBit-same (getD M slot 0) v)
 
@@ -65,8 +66,10 @@ module _ {n k : ℕ} {T : Table} {M cells : List ℕ} (mirror : Mirror n k T M c
     high-other : (x : ℕ) → (Fixed left x → ⊥) → Change false (getD M slot 0) left x 0
     high-other x free = omega (arith, only-free left x free, only-free (getD M slot 0) x (was-free (getD M slot 0) v x has some))
 
-    low-reach : Reach n (cornerOf true n (boundLine true n T v)) (slackAt true n T M v) slot (cellsOf true n k v cells₁) a
-    low-reach = lent₁ .does .reach (cornerOf true n (boundLine true n T v)) (slackAt true n T M v) (mirror .rows true v v<k .held) free₁
+    low-reach : Reach (n + 1) (rowCorners true n (boundLine true n T v)) (rowSlack true n (boundLine true n T v) M v) slot (cellsOf true n k v cells₁) a
+    low-reach =
+        let line = boundLine true n T v in
+        lent₁ .does .reach (rowCorners true n line) (rowSlack true n line M v) (mirror .rows true v v<k .held) (row-lasts n true line M v) free₁
 
     low-starts : 0 < a → (s : ℕ) → s < x₁ → Passed true n T M v s
     low-starts 0<a = spent-passed mirror true v v<k x₁ (lent₁ .does .from 0<a ∙ row-first n v cells)
@@ -80,7 +83,7 @@ module _ {n k : ℕ} {T : Table} {M cells : List ℕ} (mirror : Mirror n k T M c
       plain-rows : (kind : Bool) (x : ℕ) → x < k → Row kind n k T M after cells₁ x (Due kind v a 0 0 x)
       plain-rows true x x<k =
           dite (ℕ-discrete x v)
-          (λ same. rw same (row-weaken (λ t t≤a. (refl, t≤a)) (row-falls mirror cells₁ slot left inside true v v<k a low-change low-reach)))
+          (λ same. rw same (row-weaken (λ t t≤a. (refl, t≤a)) (row-falls mirror cells₁ slot left inside true v v<k slot<n a (lent₁ .does .inside) low-change low-reach)))
           (λ other. row-stays mirror cells₁ slot left inside true x x<k (Due true v a 0 0 x) (low-other x other) (same₁ true x x<k other))
       plain-rows false x x<k =
           row-stays mirror cells₁ slot left inside false x x<k (Due false v a 0 0 x) (high-other x (many x)) (same₁ false x x<k (λ e. absurd (omega arith)))
@@ -88,11 +91,11 @@ module _ {n k : ℕ} {T : Table} {M cells : List ℕ} (mirror : Mirror n k T M c
       pub struck-plain : Struck n k T M after cells₁ slot v x₁ a 0 0 0
       struck-plain =
           struck-rows cells₁ x₁ a 0 0 0 (omega arith) (lent₁ .does .inside) zero-le plain-rows low-starts (λ 0<0. absurd (omega arith))
-          (reach-met mirror cells₁ slot left inside true v v<k a low-change low-reach) (λ 0<0. absurd (omega arith))
+          (reach-met mirror cells₁ slot left inside true v v<k slot<n a (lent₁ .does .inside) low-change low-reach) (λ 0<0. absurd (omega arith))
 
     -- ---- the upper row of w, the only value that is left
     module _ (cells₂ : List ℕ) (w b : ℕ) {g₂ x₂ : ℕ} (w<k : w < k) (single : Fixed left w)
-        (lent₂ : Lent ((k + w) * (n + 1)) (n + 1) (λ l l′. Dropped n slot l l′ b g₂ x₂) cells₁ cells₂)
+        (lent₂ : Lent ((k + w) * (n + 2)) (n + 2) (λ l l′. Dropped n slot l l′ b g₂ x₂) cells₁ cells₂)
         (free₂ : getD (cellsOf false n k w cells) 0 0 ≤ slot) where
       same₂ : (kind : Bool) (x : ℕ) → x < k → (row kind k x ≡ k + w → ⊥) → cellsOf kind n k x cells₂ ≡ cellsOf kind n k x cells₁
       same₂ true x x<k other = lent-row n (k + k) (k + w) x lent₂ (omega (arith, lent₁ .size)) (omega arith) other
@@ -101,13 +104,14 @@ module _ {n k : ℕ} {T : Table} {M cells : List ℕ} (mirror : Mirror n k T M c
       high-change : Change false (getD M slot 0) left w 1
       high-change = omega (arith, only-fixed left w single, only-free (getD M slot 0) w (was-free (getD M slot 0) v w has some))
 
-      low-reach₂ : Reach n (cornerOf true n (boundLine true n T v)) (slackAt true n T M v) slot (cellsOf true n k v cells₂) a
+      low-reach₂ : Reach (n + 1) (rowCorners true n (boundLine true n T v)) (rowSlack true n (boundLine true n T v) M v) slot (cellsOf true n k v cells₂) a
       low-reach₂ = rw (same₂ true v v<k (λ e. absurd (omega arith))) low-reach
 
-      high-reach : Reach n (cornerOf false n (boundLine false n T w)) (slackAt false n T M w) slot (cellsOf false n k w cells₂) b
+      high-reach : Reach (n + 1) (rowCorners false n (boundLine false n T w)) (rowSlack false n (boundLine false n T w) M w) slot (cellsOf false n k w cells₂) b
       high-reach =
           let same = same₁ false w w<k (λ e. absurd (omega arith)) in
-          lent₂ .does .reach (cornerOf false n (boundLine false n T w)) (slackAt false n T M w) (rw same (mirror .rows false w w<k .held))
+          let line = boundLine false n T w in
+          lent₂ .does .reach (rowCorners false n line) (rowSlack false n line M w) (rw same (mirror .rows false w w<k .held)) (row-lasts n false line M w)
           (rw same free₂)
 
       high-starts : 0 < b → (s : ℕ) → s < x₂ → Passed false n T M w s
@@ -118,13 +122,13 @@ module _ {n k : ℕ} {T : Table} {M cells : List ℕ} (mirror : Mirror n k T M c
       single-rows : (kind : Bool) (x : ℕ) → x < k → Row kind n k T M after cells₂ x (Due kind v a w b x)
       single-rows true x x<k =
           dite (ℕ-discrete x v)
-          (λ same. rw same (row-weaken (λ t t≤a. (refl, t≤a)) (row-falls mirror cells₂ slot left inside true v v<k a low-change low-reach₂)))
+          (λ same. rw same (row-weaken (λ t t≤a. (refl, t≤a)) (row-falls mirror cells₂ slot left inside true v v<k slot<n a (lent₁ .does .inside) low-change low-reach₂)))
           (λ other.
           row-stays mirror cells₂ slot left inside true x x<k (Due true v a w b x) (low-other x other)
           (same₂ true x x<k (λ e. absurd (omega arith)) ∙ same₁ true x x<k other))
       single-rows false x x<k =
           dite (ℕ-discrete x w)
-          (λ same. rw same (row-weaken (λ t t≤b. (refl, t≤b)) (row-falls mirror cells₂ slot left inside false w w<k b high-change high-reach)))
+          (λ same. rw same (row-weaken (λ t t≤b. (refl, t≤b)) (row-falls mirror cells₂ slot left inside false w w<k slot<n b (lent₂ .does .inside) high-change high-reach)))
           (λ other.
           row-stays mirror cells₂ slot left inside false x x<k (Due false v a w b x) (high-other x (λ fixed. other (fixed-unique left x w fixed single)))
           (same₂ false x x<k (λ e. other (omega arith)) ∙ same₁ false x x<k (λ e. absurd (omega arith))))
@@ -132,5 +136,5 @@ module _ {n k : ℕ} {T : Table} {M cells : List ℕ} (mirror : Mirror n k T M c
       pub struck-single : Struck n k T M after cells₂ slot v x₁ a w x₂ b
       struck-single =
           struck-rows cells₂ x₁ a w x₂ b w<k (lent₁ .does .inside) (lent₂ .does .inside) single-rows low-starts high-starts
-          (reach-met mirror cells₂ slot left inside true v v<k a low-change low-reach₂)
-          (reach-met mirror cells₂ slot left inside false w w<k b high-change high-reach)
+          (reach-met mirror cells₂ slot left inside true v v<k slot<n a (lent₁ .does .inside) low-change low-reach₂)
+          (reach-met mirror cells₂ slot left inside false w w<k slot<n b (lent₂ .does .inside) high-change high-reach)

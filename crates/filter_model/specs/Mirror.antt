@@ -39,7 +39,7 @@ row true k v = v
 row false k v = k + v
 
 abbrev pub cellsOf : Bool → ℕ → ℕ → ℕ → List ℕ → List ℕ
-cellsOf kind n k v cells = part (row kind k v * (n + 1)) (n + 1) cells
+cellsOf kind n k v cells = part (row kind k v * (n + 2)) (n + 2) cells
 
 pub record Mirror (n k : ℕ) (T : Table) (M cells : List ℕ) : Type 0 where
   pub rows : (kind : Bool) (v : ℕ) → v < k → Segments kind n (boundLine kind n T v) M v (cellsOf kind n k v cells)

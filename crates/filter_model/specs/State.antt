@@ -20,7 +20,7 @@ use Rattle.filter_model.specs.Trail.{Trailed}
 
 pub record World (masks cells trail : List ℕ) (n k top : ℕ) : Type 0 where
   pub slots : n ≤ length masks
-  pub rows : (k + k) * (n + 1) ≤ length cells
+  pub rows : (k + k) * (n + 2) ≤ length cells
   -- every value that is left has room on the trail
   pub room : 2 * n + 3 * (top + total masks) ≤ length trail
   -- a slot and a note fit a byte of the trail, and a value the mask

@@ -1,7 +1,8 @@
 -- One whole strike of a value v at a slot, from the masks M to M′: v leaves the slot, and the slacks that this lowers are brought up to date.
 --   Reach n C f slot cells′ r   the slack f of a row with the corners C fell by one after the slot; before r all must be settled (0: nothing)
---   Dropped n slot cells ..     the same for whichever corners and slack the cells hold, where the slot is not before the spent corner; and the
---                               tag g and the note x take the fall back, and x is the spent corner before it where another is reached
+--   Dropped n slot cells ..     the same for whichever corners and slack the cells of a row of n slots hold, where the slack at n + 1 lasts and the
+--                               slot is not before the spent corner; and the tag g and the note x, a byte, take the fall back, and x is the
+--                               spent corner before it where another is reached
 --   Due kind v a w b q t        all before t is to be settled for q: the reach of v's lower bound is a, and that of w's upper bound is b
 --   Cuts M′ v a w b N           N lies within M′ and meets the cuts of these two reaches
 --   Struck n k T M M′ ..        for a table T: the cells mirror it, newly spent corners are due, the slots before the notes x and y are before a
@@ -12,7 +13,7 @@ use mathlib.Core.Path.{_≡_}
 use mathlib.Core.Bool.{Bool, true, false}
 use mathlib.Core.Logic.{_⊎_}
 use mathlib.Core.List.{List}
-use Prim.Native.Nat.{ℕ, _≤_, _<_}
+use Prim.Native.Nat.{ℕ, _+_, _≤_, _<_}
 use lib.ListN.{length, getD}
 use Rattle.domains.specs.Masks.{Subset}
 use Rattle.closing_model.specs.Table.{Table}
@@ -32,8 +33,9 @@ pub record Reach (n : ℕ) (C : ℕ → Bool) (f : ℕ → ℕ) (slot : ℕ) (ce
 pub record Dropped (n slot : ℕ) (cells cells′ : List ℕ) (r g x : ℕ) : Type 0 where
   pub size : length cells′ ≡ length cells
   pub inside : r ≤ n
-  pub reach : (C : ℕ → Bool) (f : ℕ → ℕ) → Held n C f cells → getD cells 0 0 ≤ slot → Reach n C f slot cells′ r
-  pub back : getD cells 0 0 ≤ slot → Reversal n slot g x cells cells′
+  pub byte : slot < 256 → x < 256
+  pub reach : (C : ℕ → Bool) (f : ℕ → ℕ) → Held (n + 1) C f cells → 1 < f (n + 1) → getD cells 0 0 ≤ slot → Reach (n + 1) C f slot cells′ r
+  pub back : getD cells 0 0 ≤ slot → Reversal (n + 1) slot g x cells cells′
   pub from : 0 < r → x ≡ getD cells 0 0
 
 abbrev pub Due : Bool → ℕ → ℕ → ℕ → ℕ → ℕ → ℕ → Type 0

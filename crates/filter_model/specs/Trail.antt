@@ -49,8 +49,8 @@ abbrev pub putIn : List ℕ → ℕ → ℕ → List ℕ
 putIn M slot v = set M slot (getD M slot 0 + 2 ^ v)
 
 pub record RowRaised (n row slot g x : ℕ) (cells′ cells : List ℕ) : Type 0 where
-  pub raisable : Raisable n slot g x (part (row * (n + 1)) (n + 1) cells′)
-  pub is : cells ≡ over (row * (n + 1)) (n + 1) (risen n slot g x) cells′
+  pub raisable : Raisable (n + 1) slot g x (part (row * (n + 2)) (n + 2) cells′)
+  pub is : cells ≡ over (row * (n + 2)) (n + 2) (risen (n + 1) slot g x) cells′
 
 pub record UpperRaised (n k : ℕ) (trail M′ : List ℕ) (slot : ℕ) (cells′ cells : List ℕ) : Type 0 where
   pub fixed : (w : ℕ) → FixedAt M′ slot w → (w < k) × RowRaised n (k + w) slot (getD trail (n + slot) 0) (getD trail slot 0) cells′ cells

@@ -40,7 +40,7 @@ row-from-below kind k v first first-is v<k = rw (row-from kind k v first first-i
 
 -- a row of the kind lies within the cells
 pub row-fits : {cells rises masks : List ℕ} {n k : ℕ} → Building cells rises masks n k → (kind : Bool) (v first : ℕ) → first ≡ row kind k 0 → v < k
-    → (first + v) * (n + 1) + n < length cells
+    → (first + v) * (n + 2) + n + 1 < length cells
 row-fits {n = n} {k = k} building kind v first first-is v<k =
     rw (row-from kind k v first first-is) (omega (arith, row-inside n (k + k) (row kind k v) (row-below kind k v v<k), building .rows))
 
@@ -51,8 +51,8 @@ rows-none kind n k rises masks cells = record { size = refl; others = λ x x<k. 
 -- the row of v, after those of the values below it
 module _ {kind : Bool} {n k : ℕ} {rises masks cells cells₁ cells₂ : List ℕ} {v first : ℕ} {b : Bool} (building : Building cells rises masks n k)
     (first-is : first ≡ row kind k 0) (v<k : v < k) (done : RowsBuilt kind n k rises masks cells cells₁ v true)
-    (built : Lent ((first + v) * (n + 1)) (n + 1) (λ l l′. Built kind n v rises masks l l′ b) cells₁ cells₂) where
-  lent : Lent (row kind k v * (n + 1)) (n + 1) (λ l l′. Built kind n v rises masks l l′ b) cells₁ cells₂
+    (built : Lent ((first + v) * (n + 2)) (n + 2) (λ l l′. Built kind n v rises masks l l′ b) cells₁ cells₂) where
+  lent : Lent (row kind k v * (n + 2)) (n + 2) (λ l l′. Built kind n v rises masks l l′ b) cells₁ cells₂
   lent = rw (row-from kind k v first first-is) at built
 
   other-row : (kind′ : Bool) (x : ℕ) → x < k → (row kind′ k x ≡ row kind k v → ⊥) → cellsOf kind′ n k x cells₂ ≡ cellsOf kind′ n k x cells₁

@@ -30,11 +30,11 @@ opening-more opening done =
       mirrored = record { table = opening .mirrored .table; mirror = done .mirror (opening .mirrored .table) (opening .mirrored .mirror) };
     }
 
-pub mirrored-spent : {n k : ℕ} {m c : List ℕ} → Mirrored n k m c → (kind : Bool) (v z : ℕ) → v < k → z ≡ getD c (row kind k v * (n + 1)) 0 → z ≤ n
+pub mirrored-spent : {n k : ℕ} {m c : List ℕ} → Mirrored n k m c → (kind : Bool) (v z : ℕ) → v < k → z ≡ getD c (row kind k v * (n + 2)) 0 → z ≤ n
 mirrored-spent mirrored kind v z v<k z-is = spent-row (mirrored .mirror) kind v v<k z z-is .inside
 
 -- ---- QuietValue: a and b are the spent corners of the two rows of v
-module _ {n k : ℕ} {m₀ c₀ t₀ : List ℕ} {top v a : ℕ} (v<k : v < k) (a-is : a ≡ getD c₀ (v * (n + 1)) 0) {m₁ c₁ t₁ : List ℕ} where
+module _ {n k : ℕ} {m₀ c₀ t₀ : List ℕ} {top v a : ℕ} (v<k : v < k) (a-is : a ≡ getD c₀ (v * (n + 2)) 0) {m₁ c₁ t₁ : List ℕ} where
   pub value-dead : {h : ℕ} → Filtered n k (BoundCut true m₀ v a) (λ M. Settled M v a) m₀ c₀ t₀ top m₁ c₁ t₁ (Dead h)
       → Filtered n k Anything (QuietValue n k m₀ c₀ v) m₀ c₀ t₀ top m₁ c₁ t₁ (Dead h)
   value-dead low =
@@ -47,7 +47,7 @@ module _ {n k : ℕ} {m₀ c₀ t₀ : List ℕ} {top v a : ℕ} (v<k : v < k) (
       }
 
   module _ {h b : ℕ} (low : Filtered n k (BoundCut true m₀ v a) (λ M. Settled M v a) m₀ c₀ t₀ top m₁ c₁ t₁ (Live h))
-      (b-is : b ≡ getD c₁ ((k + v) * (n + 1)) 0) {m₂ c₂ t₂ : List ℕ} {r : Outcome}
+      (b-is : b ≡ getD c₁ ((k + v) * (n + 2)) 0) {m₂ c₂ t₂ : List ℕ} {r : Outcome}
       (high : Filtered n k (BoundCut false m₁ v b) (λ M. Settled M v b) m₁ c₁ t₁ h m₂ c₂ t₂ r) where
     rows-quiet : Lived r → (T : Table) → Mirror n k T m₀ c₀ → (kind : Bool) → Quiet kind n T m₂ v
     rows-quiet live T mirror true =

@@ -14,11 +14,11 @@ use Rattle.filter_model.specs.Mirror.{boundLine, cellsOf, Mirror}
 use Rattle.filter_model.specs.Rises.{TableRises}
 
 pub record Building (cells rises masks : List ℕ) (n k : ℕ) : Type 0 where
-  pub slots-fit : n < 1024
+  pub slots-fit : n ≤ 256
   pub values-fit : k ≤ 32
   pub rises-in : n < length rises
   pub slots : n ≤ length masks
-  pub rows : (k + k) * (n + 1) ≤ length cells
+  pub rows : (k + k) * (n + 2) ≤ length cells
 
 abbrev pub RowsAnswer : Bool → ℕ → ℕ → List ℕ → List ℕ → List ℕ → ℕ → Bool → Type 0
 RowsAnswer kind n k rises masks cells′ v true =

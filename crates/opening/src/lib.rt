@@ -64,7 +64,7 @@ fn build_rows(
     for v in 0..k {
         if !building::build_in(
             cells,
-            (first + v) as usize * (n + 1),
+            (first + v) as usize * (n + 2),
             rises,
             masks,
             n,

@@ -19,6 +19,7 @@ use Rattle.settling_model.proofs.SettlingLaws.{settling-largest}
 use Rattle.segments_model.specs.Cells.{Stands}
 use Rattle.segments_model.specs.Lines.{cornerOf, slackOf}
 use Rattle.segments_model.specs.Links.{gaps}
+use Rattle.segments_model.proofs.SlackLaws.{segments-stands, segments-holds}
 use Rattle.filter_model.specs.Mirror.{Mirror, cellsOf}
 use Rattle.filter.specs.declared.Outcome.{Outcome}
 use Rattle.filter.specs.declared.Outcome.the-variants as Outcomes
@@ -231,11 +232,11 @@ Wall kind n T M v t = Stands n (cornerOf kind n (boundLine kind n T v)) (slackOf
 mirror-walls : {n k : ℕ} {T : Table} {M cells : List ℕ} → Mirror n k T M cells → (kind : Bool) (v t : ℕ) → v < k → 0 < t → t ≤ n
     → (0 < getD (gaps (cellsOf kind n k v cells)) t 0) ↔ Wall kind n T M v t
 mirror-walls mirror true v t v<k from upto =
-    let cells = mirror .rows true v v<k .held .cells in
-    (cells .stands t from upto, cells .held t from upto)
+    let row = mirror .rows true v v<k in
+    (segments-stands row t from upto, segments-holds row t from upto)
 mirror-walls mirror false v t v<k from upto =
-    let cells = mirror .rows false v v<k .held .cells in
-    (cells .stands t from upto, cells .held t from upto)
+    let row = mirror .rows false v v<k in
+    (segments-stands row t from upto, segments-holds row t from upto)
 
 pub bookran-walls : {b calls : List ℕ} {limit : ℕ} {answers answers′ masks cells trail heights : List ℕ} {r : Ended}
     → BookRan b calls limit answers answers′ masks cells trail heights r → (L U M : List ℕ) → closedBook b ≡ some (L, U) → settledBook b ≡ some M

@@ -46,7 +46,7 @@ module _ (n slot : ℕ) (l : List ℕ) where
             size = ap length stored ∙ simp length-set;
             inside = (omega (arith, next-after slot≤n l found), t≤n);
             answer = λ C f held. rw (stored, d-is) (quiet-less slot held free slot≤n n<len found t≤n more′);
-            reverses = rw (stored, d-is) (reversal-less n slot l slot≤n free found t≤n n<len more′);
+            reverses = λ tag note lowered end. rw (stored, d-is) (reversal-less n slot l slot≤n free found t≤n n<len more′ tag note lowered end);
             barred = free;
           }
 

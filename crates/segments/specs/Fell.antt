@@ -9,11 +9,11 @@
 use mathlib.Core.Path.{_≡_}
 use mathlib.Core.Bool.{Bool}
 use mathlib.Core.List.{List}
-use Prim.Native.Nat.{ℕ, _-_, _≤_, _<_}
+use Prim.Native.Nat.{ℕ, _≤_, _<_}
 use lib.ListN.{length, getD}
 use Rattle.segments_model.specs.Fall.{Quieted, Clashed, ReachedAt}
 use Rattle.segments_model.specs.Links.{Held}
-use Rattle.segments_model.specs.Raise.{Reversal}
+use Rattle.segments_model.specs.Raise.{endOf, Reversal}
 use Rattle.segments.specs.declared.Hit.{Hit}
 use Rattle.segments.specs.declared.Hit.the-variants.{Lowered, Still, Joined, Clash, Reached}
 
@@ -39,8 +39,8 @@ Answer n C f slot cells cells′ Clash = Clashed n C f slot cells cells′
 Answer n C f slot cells cells′ (Reached t z) = ReachedAt n C f slot cells′ t
 
 abbrev pub Reverses : ℕ → ℕ → List ℕ → List ℕ → Hit → Type 0
-Reverses n slot cells cells′ (Lowered t) = Reversal n slot 0 (t - 1) cells cells′
-Reverses n slot cells cells′ Still = Reversal n slot 1 0 cells cells′
+Reverses n slot cells cells′ (Lowered t) = (tag note : ℕ) → tag < 2 → endOf tag note ≡ t → Reversal n slot tag note cells cells′
+Reverses n slot cells cells′ Still = Reversal n slot 2 0 cells cells′
 Reverses n slot cells cells′ (Joined p) = Reversal n slot 2 p cells cells′
 Reverses n slot cells cells′ Clash = slot < getD cells 0 0
 Reverses n slot cells cells′ (Reached t z) = Reversal n slot 3 z cells cells′

@@ -1,7 +1,8 @@
 // The segments of one value and one kind of bound, kept in one cell for each prefix from 0 to n: brought up to date when the slack falls by one
 // after a slot, put back as they were before such a fall, and counted. Cell 0 is the spent corner. A later cell below 1024 is a right end, one less
-// than its gap; from 1024 on it is a link to a later place, 1024 to the next one, that jumps no right end. Nothing is refused here. The contracts
-// cite `specs/Fell.antt` and the definitions of segments_model.
+// than its gap; from 1024 on it is a link to a later place, 1024 to the next one, that jumps no right end. The functions on a row of n slots (`fall_in`,
+// `raise_in`, `standing_in`) take its cells from 0 to n + 1. Nothing is refused here. The contracts cite `specs/Fell.antt` and the definitions of
+// segments_model.
 ghost use mathlib.Core.Path.{_≡_};
 ghost use Prim.Native.Nat.{_+_, _-_, _<_, _≤_};
 ghost use lib.ListN.{length, getD, set};
@@ -22,20 +23,27 @@ pub enum Hit {
     Reached(usize, usize),
 }
 
+// The first right end after the slot and its cell; or a place after n, and any number.
+struct Found {
+    at: usize,
+    cell: usize,
+}
+
 // Lowers the slack by one at each corner after the slot.
 pub fn fall(cells: &mut [u16], n: usize, slot: usize) -> Hit
-    requires { ⌜ (slot ≤ n) × (n < length (now cells)) × (n < 1024) ⌝ }
+    requires { ⌜ (slot < n) × (n < length (now cells)) × (n < 1024) ⌝ }
     ensures { λ r. ⌜ Fell n slot (now (cells .entry)) (now (cells .exit)) r ⌝ }
 {
     let z = wide(cells[0]);
     if slot < z {
         return Hit::Clash;
     }
-    let t = next_standing(cells, n, slot);
+    let found = next_end(cells, n, slot);
+    let t = found.at;
     if n < t {
         return Hit::Still;
     }
-    let d = wide(cells[t]);
+    let d = found.cell;
     if 0 < d {
         cells[t] = (d - 1) as u16;
         return Hit::Lowered(t);
@@ -49,25 +57,22 @@ pub fn fall(cells: &mut [u16], n: usize, slot: usize) -> Hit
     Hit::Joined(p)
 }
 
-// The same for the n + 1 cells from `base` on of a longer list, whose other cells stay.
+// The same for a row of n slots, the n + 2 cells from `base` on of a longer list, whose other cells stay.
 pub fn fall_in(cells: &mut [u16], base: usize, n: usize, slot: usize) -> Hit
-    requires { ⌜ (slot ≤ n) × (base + n < length (now cells)) × (n < 1024) ⌝ }
-    ensures { λ r. ⌜ Lent base (n + 1) (λ a b. Fell n slot a b r) (now (cells .entry)) (now (cells .exit)) ⌝ }
+    requires { ⌜ (slot ≤ n) × (base + n + 1 < length (now cells)) × (n < 1023) ⌝ }
+    ensures { λ r. ⌜ Lent base (n + 2) (λ a b. Fell (n + 1) slot a b r) (now (cells .entry)) (now (cells .exit)) ⌝ }
 {
-    let end = base + n + 1;
-    fall(&mut cells[base..end], n, slot)
+    let end = base + n + 2;
+    fall(&mut cells[base..end], n + 1, slot)
 }
 
 // Takes a fall after the slot back, by the tag and the note that it left: the cells are as they were before it.
 pub fn raise(cells: &mut [u16], n: usize, slot: usize, tag: usize, note: usize)
-    requires { ⌜ (slot ≤ n) × (n < length (now cells)) × (n < 1024) × Raisable n slot tag note (now cells) ⌝ }
+    requires { ⌜ (slot < n) × (n < length (now cells)) × (n < 1024) × Raisable n slot tag note (now cells) ⌝ }
     ensures { λ _. ⌜ now (cells .exit) ≡ risen n slot tag note (now (cells .entry)) ⌝ }
 {
-    if tag == 0 {
-        lift(cells, note + 1);
-        return;
-    }
-    if tag == 1 {
+    if tag < 2 {
+        lift(cells, note + 256 * tag + 1);
         return;
     }
     if tag == 2 {
@@ -78,16 +83,16 @@ pub fn raise(cells: &mut [u16], n: usize, slot: usize, tag: usize, note: usize)
     unspend(cells, z, note);
 }
 
-// The same for the n + 1 cells from `base` on of a longer list, whose other cells stay.
+// The same for a row of n slots, the n + 2 cells from `base` on of a longer list, whose other cells stay.
 pub fn raise_in(cells: &mut [u16], base: usize, n: usize, slot: usize, tag: usize, note: usize)
-    requires { ⌜ (slot ≤ n) × (base + n < length (now cells)) × (n < 1024) × Raisable n slot tag note (part base (n + 1) (now cells)) ⌝ }
-    ensures { λ _. ⌜ now (cells .exit) ≡ over base (n + 1) (risen n slot tag note) (now (cells .entry)) ⌝ }
+    requires { ⌜ (slot ≤ n) × (base + n + 1 < length (now cells)) × (n < 1023) × Raisable (n + 1) slot tag note (part base (n + 2) (now cells)) ⌝ }
+    ensures { λ _. ⌜ now (cells .exit) ≡ over base (n + 2) (risen (n + 1) slot tag note) (now (cells .entry)) ⌝ }
 {
-    let end = base + n + 1;
-    raise(&mut cells[base..end], n, slot, tag, note);
+    let end = base + n + 2;
+    raise(&mut cells[base..end], n + 1, slot, tag, note);
 }
 
-// How many segments the cells hold.
+// How many segments the cells hold, of those that end at n or before.
 pub fn standing(cells: &[u16], n: usize) -> usize
     requires { ⌜ n < length (now cells) ⌝ }
     ensures { λ r. ⌜ r ≡ standingIn (gaps (now (cells .entry))) n ⌝ }
@@ -103,29 +108,37 @@ pub fn standing(cells: &[u16], n: usize) -> usize
     count
 }
 
-// The same for the n + 1 cells from `base` on.
+// The same for a row of n slots, the n + 2 cells from `base` on.
 pub fn standing_in(cells: &[u16], base: usize, n: usize) -> usize
-    requires { ⌜ base + n < length (now cells) ⌝ }
-    ensures { λ r. ⌜ r ≡ standingIn (gaps (part base (n + 1) (now (cells .entry)))) n ⌝ }
+    requires { ⌜ base + n + 1 < length (now cells) ⌝ }
+    ensures { λ r. ⌜ r ≡ standingIn (gaps (part base (n + 2) (now (cells .entry)))) n ⌝ }
 {
-    let end = base + n + 1;
+    let end = base + n + 2;
     standing(&cells[base..end], n)
 }
 
-// The first right end after the slot, or a place after n, by the links.
-fn next_standing(cells: &[u16], n: usize, slot: usize) -> usize
-    requires { ⌜ (slot ≤ n) × (n < length (now cells)) × (n < 1024) ⌝ }
-    ensures { λ r. ⌜ r ≡ nextOf n slot (now (cells .entry)) ⌝ }
+// The first right end after the slot, by the links.
+fn next_end(cells: &[u16], n: usize, slot: usize) -> Found
+    requires { ⌜ (slot < n) × (n < length (now cells)) × (n < 1024) ⌝ }
+    ensures { λ r. ⌜ (r .at ≡ nextOf n slot (now (cells .entry))) × (r .at ≤ n → r .cell ≡ getD (now (cells .entry)) (r .at) 0)
+        × (r .cell < 65536) ⌝ }
 {
     let mut t = slot + 1;
-    while t <= n {
-        let c = wide(cells[t]);
-        if c < 1024 {
-            return t;
+    let mut c = wide(cells[t]);
+    while 1024 <= c {
+        t = t + (c - 1023);
+        if n < t {
+            return found_at(t, c);
         }
-        t = t + 1 + (c - 1024);
+        c = wide(cells[t]);
     }
-    t
+    found_at(t, c)
+}
+
+fn found_at(at: usize, cell: usize) -> Found
+    ensures { λ r. ⌜ (r .at ≡ at) × (r .cell ≡ cell) ⌝ }
+{
+    Found { at, cell }
 }
 
 // The last right end after z up to the slot, or z.
@@ -171,10 +184,11 @@ fn lift(cells: &mut [u16], t: usize)
 
 // The first right end after the slot is parted again from p, which was joined to it.
 fn unjoin(cells: &mut [u16], n: usize, slot: usize, p: usize)
-    requires { ⌜ (slot ≤ n) × (n < length (now cells)) × (n < 1024) × (p ≤ slot) ⌝ }
+    requires { ⌜ (slot < n) × (n < length (now cells)) × (n < 1024) × (p ≤ slot) ⌝ }
     ensures { λ _. ⌜ now (cells .exit) ≡ parted n (nextOf n slot (now (cells .entry))) p (now (cells .entry)) ⌝ }
 {
-    let t = next_standing(cells, n, slot);
+    let found = next_end(cells, n, slot);
+    let t = found.at;
     if n < t {
         return;
     }

@@ -1,6 +1,6 @@
--- The laws of `Done` of specs/Build.antt: the start (`done-none`), one prefix more (`done-skip`, `done-insert`), cells pointed at the first right
+-- The laws of `Done` of specs/Build.antt: the start (`done-none`; with the corner at n + 1 `done-end`), one prefix more (`done-skip`, `done-insert`), cells pointed at the first right
 -- end (`done-point`), and the end (`segments-done`). No contract cites this file. Assumes nothing.
-use mathlib.Core.Path.{_≡_, sym, ap, _∙_}
+use mathlib.Core.Path.{_≡_, refl, sym, ap, _∙_}
 use mathlib.Core.Bool.{Bool, true, false, true≢false}
 use mathlib.Core.Logic.{dite}
 use mathlib.Core.List.{List}
@@ -8,9 +8,11 @@ use Prim.Native.Nat.{ℕ, _+_, _-_, _≤_, _<_}
 use native.Mathlib.Decide.{ℕ-discrete}
 use native.Mathlib.Omega.{arith}
 use lib.ListN.{length, getD}
-use Rattle.segments_model.specs.Lines.{cornerOf, gain, loss, slackOf, Unbroken, Segments}
+use Rattle.segments_model.specs.Lines.{cornerOf, gain, loss, reserve, withEnd, withReserve, rowCorners, rowSlack, Broken, Unbroken, Segments}
 use Rattle.segments_model.specs.Links.{gaps, Fresh}
 use Rattle.segments_model.specs.Build.{Laid, Inserted, Pointed, Done}
+use Rattle.segments_model.proofs.CellsLaws.{held-same}
+use Rattle.segments_model.proofs.EndLaws.{withEnd-inner, withEnd-end, withReserve-inner, withReserve-end, withReserve-less}
 use Rattle.segments_model.proofs.FillingLaws.{filling-none, filling-all, filling-skip}
 use Rattle.segments_model.proofs.LinksLaws.{gaps-first, gaps-link, link-next}
 use Rattle.segments_model.proofs.LinkedLaws.{gaps-pointed, linked-pointed}
@@ -64,13 +66,51 @@ done-point {n} {C} {g} {h} {s} {l} {q} done n<len past past≤q l′ pointed =
       kept = done .kept;
     }
 
+-- ---- with the corner at n + 1 and its slack x
+
+module _ (n : ℕ) (C : ℕ → Bool) (g h : ℕ → ℕ) (x : ℕ) where
+  -- the first corner that is put in
+  pub done-end : (l l′ : List ℕ) (past q : ℕ) → past ≡ n + 2 → n + 1 < length l → getD l 0 0 ≡ 0 → Fresh (n + 1) l
+      → Inserted (n + 1) (n + 1) x past l l′ q
+      → Done (n + 1) (withEnd n C) (withReserve n x g) (withReserve n 0 h) n l′ q
+  done-end l l′ past q past-is n<len none fresh inserted =
+      let before : n + 1 - 1 ≡ n = omega arith in
+      let end : n + 1 + 1 ≡ past = omega arith in
+      let gained = withReserve-end n x g (n + 1) (omega arith) in
+      let lost = withReserve-end n 0 h (n + 1) (omega arith) in
+      let start : Done (n + 1) (withEnd n C) (withReserve n x g) (withReserve n 0 h) (n + 1) l past =
+      rw end at (done-none (n + 1) (withEnd n C) (withReserve n x g) (withReserve n 0 h) l n<len none fresh) in
+      rw before at
+      (done-insert start (omega arith) l′ x q (withEnd-end n C (n + 1) (omega arith)) (omega (arith, lost)) (omega (arith, gained, lost)) inserted)
+
+  pub broken-inner : (t : ℕ) → t ≤ n → Broken (n + 1) (withEnd n C) (withReserve n x g) (withReserve n 0 h) t → Broken n C g h t
+  broken-inner t t≤n broken =
+      record {
+        above = broken .above;
+        inside = t≤n;
+        corner = sym (withEnd-inner n C t t≤n) ∙ broken .corner;
+        broken = omega (arith, broken .broken, withReserve-inner n x g t t≤n, withReserve-inner n 0 h t t≤n);
+      }
+
 pub segments-done : {kind : Bool} {n : ℕ} {u : ℕ → ℕ} {M : List ℕ} {v : ℕ} {l : List ℕ} {q : ℕ}
-    → Done n (cornerOf kind n u) (gain kind u M v) (loss kind u M v) 0 l q → Segments kind n u M v l
-segments-done {kind} {n} {u} {M} {v} {l} {q} done =
+    → Done (n + 1) (rowCorners kind n u) (withReserve n (reserve kind M v n) (gain kind u M v)) (withReserve n 0 (loss kind u M v)) 0 l q
+    → ((t : ℕ) → t ≤ n → u t ≤ n) → Segments kind n u M v l
+segments-done {kind} {n} {u} {M} {v} {l} {q} done under =
+    let x = reserve kind M v n in
+    let g = gain kind u M v in
+    let h = loss kind u M v in
+    let f : ℕ → ℕ = λ w. withReserve n x g w - withReserve n 0 h w in
     record {
-      held = record {
-        cells = filling-all n (cornerOf kind n u) (slackOf kind u M v) (gaps l) q (done .laid .filling);
-        linked = done .laid .linked;
-      };
-      kept = done .kept;
+      held =
+          held-same (n + 1) (rowCorners kind n u) (rowCorners kind n u) f (rowSlack kind n u M v) l (λ t 0<t t≤n+1. refl)
+          (λ t 0<t t≤n+1. withReserve-less n x g h t)
+          (record { cells = filling-all (n + 1) (rowCorners kind n u) f (gaps l) q (done .laid .filling); linked = done .laid .linked });
+      kept = λ t 0<t t≤n corner.
+          omega (
+            arith,
+            done .kept t 0<t (omega arith) (withEnd-inner n (cornerOf kind n u) t t≤n ∙ corner),
+            withReserve-inner n x g t t≤n,
+            withReserve-inner n 0 h t t≤n,
+          );
+      under = under;
     }

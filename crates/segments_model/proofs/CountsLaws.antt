@@ -20,7 +20,7 @@ tick-lt : (kind : Bool) (m v : ℕ) → tick kind m v < 2
 tick-lt true m v = testBit-lt m v
 tick-lt false m v = only-lt m v
 
-countOf-bound : (kind : Bool) (M : List ℕ) (v t : ℕ) → countOf kind M v t ≤ t
+pub countOf-bound : (kind : Bool) (M : List ℕ) (v t : ℕ) → countOf kind M v t ≤ t
 countOf-bound kind M v t = count-bound (λ s. tick kind (getD M s 0) v) (λ s. tick-lt kind (getD M s 0) v) t
 
 -- ---- Counts

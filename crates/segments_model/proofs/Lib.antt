@@ -2,6 +2,7 @@ pub mod BuildLaws
 pub mod CellsLaws
 pub mod CountsLaws
 pub mod CoversLaws
+pub mod EndLaws
 pub mod FallLaws
 pub mod FallenLaws
 pub mod FillingLaws

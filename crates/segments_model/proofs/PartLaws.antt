@@ -32,25 +32,25 @@ put-after a e l ys a≤e e≤len size i e≤i =
     ap (λ (j : ℕ). getD (putMid a (e - a) l ys) j 0) (sym at) ∙ sym (getD-drop e (putMid a (e - a) l ys) (i - e) 0)
     ∙ ap (λ (m : List ℕ). getD m (i - e) 0) (drop-put a e l ys a≤e e≤len size) ∙ getD-drop e l (i - e) 0 ∙ ap (λ (j : ℕ). getD l j 0) at
 
--- what was done to the n + 1 cells from base on is done to their place
-pub lent : (base n : ℕ) (P : List ℕ → List ℕ → Type 0) (l ys : List ℕ) → base + n < length l → length ys ≡ length (midOf base (base + n + 1 - base) l)
-    → P (midOf base (base + n + 1 - base) l) ys → Lent base (n + 1) P l (putMid base (base + n + 1 - base) l ys)
+-- what was done to the n + 2 cells from base on is done to their place
+pub lent : (base n : ℕ) (P : List ℕ → List ℕ → Type 0) (l ys : List ℕ) → base + n + 1 < length l → length ys ≡ length (midOf base (base + n + 2 - base) l)
+    → P (midOf base (base + n + 2 - base) l) ys → Lent base (n + 2) P l (putMid base (base + n + 2 - base) l ys)
 lent base n P l ys inside kept does =
-    let k : base + n + 1 - base ≡ n + 1 = omega arith in
-    let size : length ys ≡ base + n + 1 - base = kept ∙ mid-len base (base + n + 1) l (omega arith) in
+    let k : base + n + 2 - base ≡ n + 2 = omega arith in
+    let size : length ys ≡ base + n + 2 - base = kept ∙ mid-len base (base + n + 2) l (omega arith) in
     record {
       does =
-          let done : P (part base (n + 1) l) ys = rw k at does in
-          let put : part base (n + 1) (putMid base (base + n + 1 - base) l ys) ≡ ys = rw k (part-put base (n + 1) l ys (omega arith) (size ∙ k)) in
+          let done : P (part base (n + 2) l) ys = rw k at does in
+          let put : part base (n + 2) (putMid base (base + n + 2 - base) l ys) ≡ ys = rw k (part-put base (n + 2) l ys (omega arith) (size ∙ k)) in
           rw put done;
-      size = same-len-mid base (base + n + 1 - base) l ys kept;
-      before = put-before base (base + n + 1 - base) l ys (omega arith) size;
-      after = λ i past. put-after base (base + n + 1) l ys (omega arith) (omega arith) size i (omega arith);
+      size = same-len-mid base (base + n + 2 - base) l ys kept;
+      before = put-before base (base + n + 2 - base) l ys (omega arith) size;
+      after = λ i past. put-after base (base + n + 2) l ys (omega arith) (omega arith) size i (omega arith);
     }
 
--- what is known of the n + 1 cells from base on is known of what is lent
-pub part-mid : (base n : ℕ) (P : List ℕ → Type 0) (l : List ℕ) → P (part base (n + 1) l) → P (midOf base (base + n + 1 - base) l)
-part-mid base n P l known = let k : base + n + 1 - base ≡ n + 1 = omega arith in rw k known
+-- what is known of the n + 2 cells from base on is known of what is lent
+pub part-mid : (base n : ℕ) (P : List ℕ → Type 0) (l : List ℕ) → P (part base (n + 2) l) → P (midOf base (base + n + 2 - base) l)
+part-mid base n P l known = let k : base + n + 2 - base ≡ n + 2 = omega arith in rw k known
 
 -- ---- a part that lies apart
 

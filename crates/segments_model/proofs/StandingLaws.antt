@@ -1,5 +1,5 @@
--- The laws of `standingIn`, `standsAt` and `standing` of specs/Cells.antt. The one that matters: `standing-words`, the cells hold as many
--- segments as there are prefixes from 1 to n with `Stands`. No contract cites this file. Assumes nothing.
+-- The laws of `standingIn`, `standsAt` and `standing` of specs/Cells.antt. The one that matters: `standing-words`, cells that are above 0
+-- just where a prefix from 1 to n stands hold as many segments as there are such prefixes. No contract cites this file. Assumes nothing.
 use mathlib.Core.Path.{_≡_, refl, sym, ap, _∙_}
 use mathlib.Core.Bool.{Bool, true, false, _&&_, and-eq-true-iff}
 use mathlib.Core.Logic.{dite}
@@ -12,7 +12,6 @@ use lib.Dec.{eqb, ltb, leb}
 use borrow.Author.Tests.{lt-ltb, le-ltb, ltb-true, le-leb, leb-true, eq-eqb, eqb-true}
 use Rattle.domains.specs.Counts.{bit}
 use Rattle.segments_model.specs.Cells.{upTo, Stands, standingIn, standsAt, standing}
-use Rattle.segments_model.specs.Links.{gaps, Held}
 use Rattle.segments_model.proofs.SumLaws.{upTo-none, upTo-next, upTo-grows, upTo-above, upTo-ext, upTo-flat}
 
 -- ---- standingIn
@@ -81,13 +80,14 @@ module _ (n : ℕ) (C : ℕ → Bool) (f : ℕ → ℕ) (t : ℕ) where
 
 -- ---- standing
 
-pub standing-words : (n : ℕ) (C : ℕ → Bool) (f : ℕ → ℕ) (cells : List ℕ) → Held n C f cells → standingIn (gaps cells) n ≡ standing n C f
-standing-words n C f cells held =
-    let stood = held .cells in
-    upTo-ext (λ t. bit (ltb 0 (getD (gaps cells) t 0))) (λ t. bit (standsAt n C f t)) n
+pub standing-words : (n : ℕ) (C : ℕ → Bool) (f : ℕ → ℕ) (cells : List ℕ)
+    → ((t : ℕ) → 0 < t → t ≤ n → 0 < getD cells t 0 → Stands n C f t) → ((t : ℕ) → 0 < t → t ≤ n → Stands n C f t → 0 < getD cells t 0)
+    → standingIn cells n ≡ standing n C f
+standing-words n C f cells stands held =
+    upTo-ext (λ t. bit (ltb 0 (getD cells t 0))) (λ t. bit (standsAt n C f t)) n
     (λ t 0<t t≤n.
-    dite (decLt 0 (getD (gaps cells) t 0))
-    (λ some. ap bit (lt-ltb 0 (getD (gaps cells) t 0) some ∙ sym (stands-standsAt n C f t (stood .stands t 0<t t≤n some))))
+    dite (decLt 0 (getD cells t 0))
+    (λ some. ap bit (lt-ltb 0 (getD cells t 0) some ∙ sym (stands-standsAt n C f t (stands t 0<t t≤n some))))
     (λ none.
-    ap bit (le-ltb 0 (getD (gaps cells) t 0) (omega arith))
-    ∙ sym (bit-false (standsAt n C f t) (λ e. none (stood .held t 0<t t≤n (standsAt-stands n C f t e))))))
+    ap bit (le-ltb 0 (getD cells t 0) (omega arith))
+    ∙ sym (bit-false (standsAt n C f t) (λ e. none (held t 0<t t≤n (standsAt-stands n C f t e))))))

@@ -7,14 +7,19 @@
 --   tick, countOf          what one mask counts for the kind, and their sum before t: document 01's P (lower) or B (upper)
 --   gain, loss, slackOf    P - lower or upper - B, and its two parts
 --   Change kind m₀ m v d   the mask m in place of m₀ costs the slack d
+--   reserve kind M v n     more than any slack that a line of at most n can have: 2 and n and how often the slack can still fall
+--   withEnd, withReserve   the corners up to n with one more at n + 1, and a slack up to n with another number there
+--   rowCorners, rowSlack   the corners of the line with one more at n + 1, and their slack with the reserve there
 --   Broken, Unbroken       a corner with less gain than loss: P below lower, or B above upper; no such corner after t
---   BrokenAt, Segments     the bound is broken at t; no corner of it is broken, and the cells hold its segments
+--   BrokenAt               the bound is broken at t
+--   Segments               no corner of it is broken, the cells hold its segments, and at n + 1 a right end with the reserve, so that each fall
+--                          finds a right end after its slot
 -- Assumes nothing.
 use mathlib.Core.Path.{_≡_}
-use mathlib.Core.Bool.{Bool, true, false, _&&_, _||_}
+use mathlib.Core.Bool.{Bool, true, false, cond, _&&_, _||_}
 use mathlib.Core.List.{List}
 use Prim.Native.Nat.{ℕ, suc, _+_, _-_, _≤_, _<_}
-use lib.Dec.{eqb}
+use lib.Dec.{eqb, leb}
 use lib.ListN.{getD}
 use Rattle.domains.specs.Mask.{testBit}
 use Rattle.domains.specs.Counts.{count, only, countHas, countFixed}
@@ -57,6 +62,23 @@ abbrev pub Change : Bool → ℕ → ℕ → ℕ → ℕ → Type 0
 Change true m₀ m v d = testBit m₀ v ≡ testBit m v + d
 Change false m₀ m v d = only m v ≡ only m₀ v + d
 
+-- ---- one more corner, at n + 1
+abbrev pub reserve : Bool → List ℕ → ℕ → ℕ → ℕ
+reserve true M v n = n + 2 + countHas M v n
+reserve false M v n = n + 2 + (n - countFixed M v n)
+
+unfoldable pub withEnd : ℕ → (ℕ → Bool) → ℕ → Bool
+withEnd n C t = cond (leb t n) (C t) true
+
+unfoldable pub withReserve : ℕ → ℕ → (ℕ → ℕ) → ℕ → ℕ
+withReserve n x f t = cond (leb t n) (f t) x
+
+abbrev pub rowCorners : Bool → ℕ → (ℕ → ℕ) → ℕ → Bool
+rowCorners kind n u = withEnd n (cornerOf kind n u)
+
+abbrev pub rowSlack : Bool → ℕ → (ℕ → ℕ) → List ℕ → ℕ → ℕ → ℕ
+rowSlack kind n u M v = withReserve n (reserve kind M v n) (slackOf kind u M v)
+
 -- ---- the segments: g is the gain, h the loss
 pub record Broken (n : ℕ) (C : ℕ → Bool) (g h : ℕ → ℕ) (t : ℕ) : Type 0 where
   pub above : 0 < t
@@ -71,5 +93,6 @@ abbrev pub BrokenAt : Bool → ℕ → (ℕ → ℕ) → List ℕ → ℕ → �
 BrokenAt kind n u M v t = Broken n (cornerOf kind n u) (gain kind u M v) (loss kind u M v) t
 
 pub record Segments (kind : Bool) (n : ℕ) (u : ℕ → ℕ) (M : List ℕ) (v : ℕ) (cells : List ℕ) : Type 0 where
-  pub held : Held n (cornerOf kind n u) (slackOf kind u M v) cells
+  pub held : Held (n + 1) (rowCorners kind n u) (rowSlack kind n u M v) cells
   pub kept : Unbroken n (cornerOf kind n u) (gain kind u M v) (loss kind u M v) 0
+  pub under : (t : ℕ) → t ≤ n → u t ≤ n

@@ -9,10 +9,10 @@ use native.Mathlib.Omega.{arith}
 use Rattle.closing_model.specs.Table.{Table}
 use Rattle.closing_model.specs.Corners.{UpperCorner, LowerCorner}
 use Rattle.segments_model.specs.Cells.{standingIn}
-use Rattle.segments_model.specs.Lines.{cornerOf, slackOf, Segments}
+use Rattle.segments_model.specs.Lines.{cornerOf, Segments}
 use Rattle.segments_model.specs.Links.{gaps}
 use Rattle.segments_model.proofs.LinesLaws.{corner-of-turn, turn-of-corner}
-use Rattle.segments_model.proofs.StandingLaws.{standing-words}
+use Rattle.segments_model.proofs.SlackLaws.{segments-standing}
 use Rattle.session_model.specs.Walls.{boundLine, wallCount}
 
 -- ---- corners
@@ -36,5 +36,4 @@ module _ (n : ℕ) (u : ℕ → ℕ) (t : ℕ) where
 -- ---- wallCount
 pub segments-wallCount : (kind : Bool) (n : ℕ) (T : Table) (M : List ℕ) (v : ℕ) (cells : List ℕ) → Segments kind n (boundLine kind n T v) M v cells
     → standingIn (gaps cells) n ≡ wallCount kind n T M v
-segments-wallCount kind n T M v cells segments =
-    standing-words n (cornerOf kind n (boundLine kind n T v)) (slackOf kind (boundLine kind n T v) M v) cells (segments .held)
+segments-wallCount kind n T M v cells segments = segments-standing segments

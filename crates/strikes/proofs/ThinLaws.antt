@@ -32,19 +32,19 @@ module _ (m v : ℕ) (wide : 2 < ones m) where
 
 -- ---- thin
 module _ {masks cells trail : List ℕ} {n k top slot v : ℕ} (ready : Ready masks cells trail n k top slot v) (has : HasAt masks slot v)
-    (cells′ : List ℕ) {clash : Bool} (told : Told slot (getD cells (v * (n + 1)) 0) cells cells′ clash) where
+    (cells′ : List ℕ) {clash : Bool} (told : Told slot (getD cells (v * (n + 2)) 0) cells cells′ clash) where
   pub thin-barred : (x a : ℕ) → clash ≡ true → Thinned n k masks cells trail top masks cells′ trail slot v x a clash
   thin-barred x a is =
-      let barred = told-clash slot (getD cells (v * (n + 1)) 0) cells cells′ told is in
-      rw (is, barred .1) (contradicted-low ready has (getD cells (v * (n + 1)) 0) refl (barred .0))
+      let barred = told-clash slot (getD cells (v * (n + 2)) 0) cells cells′ told is in
+      rw (is, barred .1) (contradicted-low ready has (getD cells (v * (n + 2)) 0) refl (barred .0))
 
   module _ (wide : 2 < ones (getD masks slot 0)) (is : clash ≡ false) {a g x : ℕ}
-      (lent : Lent (v * (n + 1)) (n + 1) (λ l l′. Dropped n slot l l′ a g x) cells cells′) where
+      (lent : Lent (v * (n + 2)) (n + 2) (λ l l′. Dropped n slot l l′ a g x) cells cells′) where
     abbrev left : ℕ
     left = clearBit (getD masks slot 0) v
 
-    spent-free : getD cells (v * (n + 1)) 0 ≤ slot
-    spent-free = told-free slot (getD cells (v * (n + 1)) 0) cells cells′ told is
+    spent-free : getD cells (v * (n + 2)) 0 ≤ slot
+    spent-free = told-free slot (getD cells (v * (n + 2)) 0) cells cells′ told is
 
     pub thin-tag : g ≤ 3
     thin-tag = low-tag ready has left refl (wide-some (getD masks slot 0) v wide) refl spent-free lent

@@ -2,7 +2,7 @@
 // the trail; what follows from it is the filter's. Nothing is refused here. The contracts cite `specs/Answers.antt` and the definitions of
 // filter_model.
 ghost use mathlib.Core.Path.{_≡_};
-ghost use mathlib.Core.Bool.{true, false};
+ghost use mathlib.Core.Bool.{true, false, cond};
 ghost use Prim.Native.Nat.{_+_, _*_, _<_, _≤_};
 ghost use lib.Dec.{eqb, ltb};
 ghost use lib.Count.{ones};
@@ -100,10 +100,10 @@ pub fn thin(
 
 // The spent corner of a row: the last one without slack, or 0.
 pub fn spent(cells: &[u16], row: u32, n: usize) -> usize
-    requires { ⌜ row * (n + 1) + n < length (now cells) ⌝ }
-    ensures { λ r. ⌜ r ≡ getD (now (cells .entry)) (row * (n + 1)) 0 ⌝ }
+    requires { ⌜ row * (n + 2) + n + 1 < length (now cells) ⌝ }
+    ensures { λ r. ⌜ r ≡ getD (now (cells .entry)) (row * (n + 2)) 0 ⌝ }
 {
-    wide(cells[row as usize * (n + 1)])
+    wide(cells[row as usize * (n + 2)])
 }
 
 // Whether the slot has value v.
@@ -156,28 +156,38 @@ pub fn other_values(masks: &[u32], slot: usize, v: u32) -> u32
 
 // Lowers the slack of a row by one after the slot; where the slot is before the spent corner that is a clash, and the cells stay.
 fn fall_row(cells: &mut [u16], row: u32, n: usize, slot: usize) -> Descent
-    requires { ⌜ (slot ≤ n) × (row * (n + 1) + n < length (now cells)) × (n < 1024) ⌝ }
-    ensures { λ r. ⌜ Lent (row * (n + 1)) (n + 1) (λ a b. Dropped n slot a b (r .reach) (r .tag) (r .note)) (now (cells .entry)) (now (cells .exit))
-        × Told slot (getD (now (cells .entry)) (row * (n + 1)) 0) (now (cells .entry)) (now (cells .exit)) (r .clash) ⌝ }
+    requires { ⌜ (slot ≤ n) × (row * (n + 2) + n + 1 < length (now cells)) × (n ≤ 256) ⌝ }
+    ensures { λ r. ⌜ Lent (row * (n + 2)) (n + 2) (λ a b. Dropped n slot a b (r .reach) (r .tag) (r .note)) (now (cells .entry)) (now (cells .exit))
+        × Told slot (getD (now (cells .entry)) (row * (n + 2)) 0) (now (cells .entry)) (now (cells .exit)) (r .clash) ⌝ }
 {
-    let hit = segments::fall_in(cells, row as usize * (n + 1), n, slot);
+    let hit = segments::fall_in(cells, row as usize * (n + 2), n, slot);
     match hit {
         segments::Hit::Lowered(t) => {
-            return fell_by(false, 0, 0, t - 1);
+            return fell_by(false, 0, (t - 1) / 256, (t - 1) % 256);
         }
         segments::Hit::Still => {
-            return fell_by(false, 0, 1, 0);
+            return fell_by(false, 0, 2, 0);
         }
         segments::Hit::Joined(p) => {
             return fell_by(false, 0, 2, p);
         }
         segments::Hit::Clash => {
-            return fell_by(true, 0, 1, 0);
+            return fell_by(true, 0, 2, 0);
         }
         segments::Hit::Reached(t, z) => {
-            return fell_by(false, t, 3, z);
+            return fell_by(false, up_to(n, t), 3, z);
         }
     }
+}
+
+// t, or 0 where it is after n.
+fn up_to(n: usize, t: usize) -> usize
+    ensures { λ r. ⌜ r ≡ cond (ltb n t) 0 t ⌝ }
+{
+    if n < t {
+        return 0;
+    }
+    t
 }
 
 // What a row's fall led to, from its parts.

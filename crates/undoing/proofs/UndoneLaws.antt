@@ -13,7 +13,7 @@ use Rattle.domains.specs.Mask.{Fixed}
 use Rattle.domains.specs.Masks.{FixedAt}
 use Rattle.settling_model.specs.Settled.{LacksAt}
 use Rattle.segments_model.specs.Part.{part, over}
-use Rattle.segments_model.specs.Raise.{lifted, risen}
+use Rattle.segments_model.specs.Raise.{endOf, lifted, risen}
 use Rattle.segments_model.proofs.PartLaws.{over-lent}
 use Rattle.segments_model.proofs.RaiseLaws.{risen-lowered}
 use Rattle.filter_model.specs.State.{World, Moved}
@@ -25,8 +25,8 @@ use Rattle.filter_model.proofs.TrailLaws.{Next, restores-next, restores-done}
 use Rattle.undoing.specs.Undone.{Sizes, RowUndoing, UpperUndoing, UpperUndone, StrikeUndoing, StrikeUndone, Undoable, Undone}
 
 -- ---- one row
-row-at : (n row : ℕ) (cells : List ℕ) (i : ℕ) → i < n + 1 → getD (part (row * (n + 1)) (n + 1) cells) i 0 ≡ getD cells (row * (n + 1) + i) 0
-row-at n row cells i inside = getD-take (n + 1) (drop (row * (n + 1)) cells) i 0 inside ∙ getD-drop (row * (n + 1)) cells i 0
+row-at : (n row : ℕ) (cells : List ℕ) (i : ℕ) → i < n + 2 → getD (part (row * (n + 2)) (n + 2) cells) i 0 ≡ getD cells (row * (n + 2) + i) 0
+row-at n row cells i inside = getD-take (n + 2) (drop (row * (n + 2)) cells) i 0 inside ∙ getD-drop (row * (n + 2)) cells i 0
 
 row-undoing : {masks cells cells₁ cells₂ : List ℕ} {n k slot g x : ℕ} (row : ℕ) → Sizes masks cells n k → slot < n → row < k + k
     → length cells₁ ≡ length cells → RowRaised n row slot g x cells₁ cells₂ → RowUndoing cells₁ row n slot g x
@@ -39,18 +39,19 @@ row-undoing {n = n} {k = k} row sizes slot<n row-in size raised =
     }
 
 -- a right end is raised in its place among all cells
-row-lifted : (n row slot : ℕ) {g x : ℕ} (cells : List ℕ) → row * (n + 1) + n < length cells → g ≡ 0 → x < n
-    → lifted (row * (n + 1) + (x + 1)) cells ≡ over (row * (n + 1)) (n + 1) (risen n slot g x) cells
-row-lifted n row slot {g} {x} cells row-in lowered x<n =
-    let base = row * (n + 1) in
-    let at = base + (x + 1) in
+row-lifted : (n row slot g x : ℕ) (cells : List ℕ) → row * (n + 2) + n + 1 < length cells → g < 2 → endOf g x ≤ n + 1
+    → lifted (row * (n + 2) + endOf g x) cells ≡ over (row * (n + 2)) (n + 2) (risen (n + 1) slot g x) cells
+row-lifted n row slot g x cells row-in lowered inside =
+    let base = row * (n + 2) in
+    let end = endOf g x in
+    let at = base + end in
     let more = getD cells at 0 + 1 in
-    let here : getD (part base (n + 1) cells) (x + 1) 0 ≡ getD cells at 0 = row-at n row cells (x + 1) (omega arith) in
-    over-lent base (n + 1) (risen n slot g x) {l = cells} (omega arith)
+    let here : getD (part base (n + 2) cells) end 0 ≡ getD cells at 0 = row-at n row cells end (omega arith) in
+    over-lent base (n + 2) (risen (n + 1) slot g x) {l = cells} (omega arith)
     (record {
       does =
-          ap (take (n + 1)) (drop-set-add base cells (x + 1) more) ∙ take-set-lt (n + 1) (drop base cells) (x + 1) more (omega arith)
-          ∙ sym (risen-lowered n slot x (part base (n + 1) cells) lowered ∙ ap (λ (y : ℕ). set (part base (n + 1) cells) (x + 1) (y + 1)) here);
+          ap (take (n + 2)) (drop-set-add base cells end more) ∙ take-set-lt (n + 2) (drop base cells) end more (omega arith)
+          ∙ sym (risen-lowered (n + 1) slot x (part base (n + 2) cells) lowered ∙ ap (λ (y : ℕ). set (part base (n + 2) cells) end (y + 1)) here);
       size = length-set cells at more;
       before = λ i before. getD-set-other cells at i more 0 (λ e. absurd (omega arith));
       after = λ i after. getD-set-other cells at i more 0 (λ e. absurd (omega arith));
@@ -73,22 +74,22 @@ module _ {masks cells trail : List ℕ} {n k slot m : ℕ} (m-is : m ≡ getD ma
         rw (g-is, x-is) (row-undoing (k + w) (undoing .sizes) (undoing .slot-in) (omega (arith, raised .0)) refl (raised .1))
 
     pub upper-undone : {g x : ℕ} {cells′ : List ℕ} → g ≡ getD trail (n + slot) 0 → x ≡ getD trail slot 0
-        → cells′ ≡ over ((k + w) * (n + 1)) (n + 1) (risen n slot g x) cells → UpperUndone masks cells trail n k slot cells′
+        → cells′ ≡ over ((k + w) * (n + 2)) (n + 2) (risen (n + 1) slot g x) cells → UpperUndone masks cells trail n k slot cells′
     upper-undone g-is x-is cells-are =
         record {
           restored = λ before raised. cells-are ∙ rw (g-is, x-is) (sym (raised .fixed w (sym m-is ∙ single) .1 .is));
         }
 
--- ---- a second byte below 32
-module _ {both b : ℕ} (both-is : both ≡ b) (short : both < 32) where
-  pub short-value : both ≡ b % 32
-  short-value = omega arith
-
+-- ---- a second byte below 64
+module _ {both b : ℕ} (both-is : both ≡ b) (short : both < 64) where
   pub short-several : b / 32 < 4
   short-several = omega arith
 
-  pub short-tag : b / 32 % 4 ≡ 0
+  pub short-tag : b / 32 % 4 < 2
   short-tag = omega arith
+
+  pub short-end : {note x : ℕ} → note ≡ x → note + 256 * (both / 32) + 1 ≡ endOf (b / 32 % 4) x
+  short-end note-is = omega arith
 
 -- ---- one strike; slot, v, the tag g and the note x are what its three bytes tell
 module _ {masks cells trail : List ℕ} {n k i : ℕ} (undoing : StrikeUndoing masks cells trail n k i) {slot v : ℕ}
@@ -119,7 +120,7 @@ module _ {masks cells trail : List ℕ} {n k i : ℕ} (undoing : StrikeUndoing m
         (taken .lower))
 
     pub strike-undone : {g x : ℕ} {cells₂ masks′ : List ℕ} → g ≡ tagAt n trail i % 4 → x ≡ noteAt n trail i
-        → cells₂ ≡ over (v * (n + 1)) (n + 1) (risen n slot g x) cells₁ → masks′ ≡ putIn masks slot v
+        → cells₂ ≡ over (v * (n + 2)) (n + 2) (risen (n + 1) slot g x) cells₁ → masks′ ≡ putIn masks slot v
         → StrikeUndone masks cells trail n k i masks′ cells₂
     strike-undone g-is x-is cells-are masks-are =
         record {
@@ -131,23 +132,23 @@ module _ {masks cells trail : List ℕ} {n k i : ℕ} (undoing : StrikeUndoing m
         }
 
   -- several values are left, and a right end was lowered
-  module _ (below : tagAt n trail i < 4) (lowered : tagAt n trail i % 4 ≡ 0) {x at : ℕ} (x-is : x ≡ noteAt n trail i)
-      (at-is : at ≡ v * (n + 1) + (x + 1)) where
-    low-row : RowUndoing cells v n slot (tagAt n trail i % 4) x
-    low-row = strike-row refl (strike-several below) refl x-is
+  module _ (below : tagAt n trail i < 4) (lowered : tagAt n trail i % 4 < 2) {at : ℕ}
+      (at-is : at ≡ v * (n + 2) + endOf (tagAt n trail i % 4) (noteAt n trail i)) where
+    low-row : RowUndoing cells v n slot (tagAt n trail i % 4) (noteAt n trail i)
+    low-row = strike-row refl (strike-several below) refl refl
 
     pub strike-lift : (at < length cells) × (getD cells at 0 < 1024)
     strike-lift =
-        let x<n = low-row .raisable .inside lowered in (
-          omega (arith, x<n, at-is, low-row .row-in),
-          rw (at-is, ← row-at n v cells (x + 1) (omega (arith, x<n))) (low-row .raisable .fits lowered),
+        let inside = low-row .raisable .inside lowered in (
+          omega (arith, inside, at-is, low-row .row-in),
+          rw (at-is, ← row-at n v cells (endOf (tagAt n trail i % 4) (noteAt n trail i)) (omega (arith, inside))) (low-row .raisable .fits lowered),
         )
 
     pub strike-lifted : {cells₂ masks′ : List ℕ} → cells₂ ≡ lifted at cells → masks′ ≡ putIn masks slot v
         → StrikeUndone masks cells trail n k i masks′ cells₂
     strike-lifted cells-are masks-are =
-        strike-undone refl (strike-several below) refl x-is
-        (cells-are ∙ rw at-is (row-lifted n v slot cells (low-row .row-in) lowered (low-row .raisable .inside lowered))) masks-are
+        strike-undone refl (strike-several below) refl refl
+        (cells-are ∙ rw at-is (row-lifted n v slot _ _ cells (low-row .row-in) lowered (low-row .raisable .inside lowered))) masks-are
 
   pub strike-value : v < 32
   strike-value = omega (arith, taken .value-in, undoing .sizes .values-fit)

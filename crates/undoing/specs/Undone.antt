@@ -19,15 +19,15 @@ use Rattle.filter_model.specs.Trail.{UpperRaised, StrikeBack, Restores}
 
 pub record Sizes (masks cells : List ℕ) (n k : ℕ) : Type 0 where
   pub slots : n ≤ length masks
-  pub rows : (k + k) * (n + 1) ≤ length cells
+  pub rows : (k + k) * (n + 2) ≤ length cells
   pub slots-fit : n ≤ 256
   pub values-fit : k ≤ 32
 
 pub record RowUndoing (cells : List ℕ) (row n slot tag note : ℕ) : Type 0 where
   pub slot-in : slot ≤ n
-  pub row-in : row * (n + 1) + n < length cells
-  pub slots-fit : n < 1024
-  pub raisable : Raisable n slot tag note (part (row * (n + 1)) (n + 1) cells)
+  pub row-in : row * (n + 2) + n + 1 < length cells
+  pub slots-fit : n < 1023
+  pub raisable : Raisable (n + 1) slot tag note (part (row * (n + 2)) (n + 2) cells)
 
 pub record UpperUndoing (masks cells trail : List ℕ) (n k slot : ℕ) : Type 0 where
   pub sizes : Sizes masks cells n k

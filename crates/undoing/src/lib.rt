@@ -38,9 +38,9 @@ fn take_back(masks: &mut [u32], cells: &mut [u16], trail: &[u8], n: usize, k: u3
     let slot = wide(trail[p]);
     let both = wide(trail[p + 1]);
     let note = wide(trail[p + 2]);
-    if both < 32 {
-        lift_cell(cells, both * (n + 1) + note + 1);
-        put_in(masks, slot, both as u32);
+    if both < 64 {
+        lift_cell(cells, both % 32 * (n + 2) + (note + 256 * (both / 32) + 1));
+        put_in(masks, slot, (both % 32) as u32);
         return;
     }
     let v = (both % 32) as u32;
@@ -78,9 +78,9 @@ fn raise_fixed(masks: &[u32], cells: &mut [u16], trail: &[u8], n: usize, k: u32,
 // Takes the fall of a row after the slot back, by its tag and its note.
 fn raise_row(cells: &mut [u16], row: u32, n: usize, slot: usize, tag: usize, note: usize)
     requires { ⌜ RowUndoing (now cells) row n slot tag note ⌝ }
-    ensures { λ _. ⌜ now (cells .exit) ≡ over (row * (n + 1)) (n + 1) (risen n slot tag note) (now (cells .entry)) ⌝ }
+    ensures { λ _. ⌜ now (cells .exit) ≡ over (row * (n + 2)) (n + 2) (risen (n + 1) slot tag note) (now (cells .entry)) ⌝ }
 {
-    segments::raise_in(cells, row as usize * (n + 1), n, slot, tag, note);
+    segments::raise_in(cells, row as usize * (n + 2), n, slot, tag, note);
 }
 
 // Puts value v into the slot, where it is not.

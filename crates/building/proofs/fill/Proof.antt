@@ -8,24 +8,22 @@ use native.Mathlib.Omega.{arith}
 use borrow.Author.Needs.{needs}
 use lib.ListN.{length}
 use Rattle.segments_model.specs.Build.{Counts}
-use Rattle.segments_model.proofs.BuildLaws.{done-none, done-point}
+use Rattle.segments_model.proofs.BuildLaws.{done-point}
 use Rattle.segments_model.proofs.CountsLaws.{choice-bound}
-use Rattle.building.proofs.BuiltLaws.{DoneAfter, turn-broken, turn-onward, done-back, built-broken, built-all}
+use Rattle.building.specs.Built.{DoneAfter}
+use Rattle.building.proofs.BuiltLaws.{turn-broken, turn-onward, done-back, built-broken, built-all}
 use Rattle.building.proofs.fill.Statement.{statement}
 use Rattle.building.proofs.fill.Tie as tie
 
 abbrev Inv-loop : tie.InvT-loop
-Inv-loop cells₀ rises masks n v lower risen counted r₀ k₀ next₀ t₀ cells r k next t =
+Inv-loop cells₀ rises masks n v lower risen counted first r₀ k₀ next₀ t₀ cells r k next t =
     (t ≤ n) × (length cells ≡ length cells₀) × Counts lower rises masks v t r k × DoneAfter lower n rises masks v t cells next
 
 abbrev μ-loop : tie.MeasureT-loop
-μ-loop cells₀ rises masks n v lower risen counted r₀ k₀ next₀ t₀ cells r k next t = t
-
-add-next : tie.Need-add-next Inv-loop μ-loop
-add-next c = omega arith
+μ-loop cells₀ rises masks n v lower risen counted first r₀ k₀ next₀ t₀ cells r k next t = t
 
 loop-holds : tie.Need-loop-holds Inv-loop μ-loop
-loop-holds c = (omega arith, refl, c .before .before .before .pre .5, done-none _ _ _ _ _ (c .before .before .before .pre .0) (c .before .before .before .pre .6) (c .before .before .before .pre .7))
+loop-holds c = (omega arith, refl, c .before .before .before .pre .5, c .before .before .before .pre .6)
 
 corner-at-requires : tie.Need-corner-at-requires Inv-loop μ-loop
 corner-at-requires c κs = omega arith
@@ -36,6 +34,9 @@ choose-requires c κs = search needs
 choose-requires-2 : tie.Need-choose-requires-2 Inv-loop μ-loop
 choose-requires-2 c κs = search needs
 
+add-visit : tie.Need-add-visit Inv-loop μ-loop
+add-visit c = omega arith
+
 visit-requires : tie.Need-visit-requires Inv-loop μ-loop
 visit-requires c κs =
     let chosen = c .before .before in
@@ -43,8 +44,8 @@ visit-requires c κs =
     let lower = turn .before .before .before .before .args .lower in
     omega (arith, chosen .choose .ensures, choice-bound (turn .loop .inv .2) lower, turn .loop .inv .3 .laid .filling .first .after, turn .loop .inv .3 .laid .filling .first .inside)
 
-enum-known-first : tie.Need-enum-known-first Inv-loop μ-loop
-enum-known-first c = search needs
+enum-known-end : tie.Need-enum-known-end Inv-loop μ-loop
+enum-known-end c = search needs
 
 enum-told : tie.Need-enum-told Inv-loop μ-loop
 enum-told c = search needs
@@ -61,7 +62,7 @@ returns c =
     let turn = chosen .before .before .before .before in
     built-broken _ _ _ _ _ _ _ (omega (arith, turn .loop .inv .1, visited .visit .ensures .size)) (turn .loop .t)
     (turn-broken _ (turn .loop .inv .2) _ _ _ (turn .loop .inv .3) (chosen .before .before .corner-at .ensures) (chosen .before .choose .ensures)
-    (chosen .choose2 .ensures) (visited .visit .ensures) (c .enum-told .given .1))
+    (chosen .choose2 .ensures) (visited .visit .ensures) (turn .loop .inv .0) (c .enum-told .given .1))
 
 previous-corner-requires : tie.Need-previous-corner-requires Inv-loop μ-loop
 previous-corner-requires c κs =
@@ -93,8 +94,8 @@ loop-again c =
       omega (arith, found .before, turn .loop .inv .0),
       omega (arith, turn .loop .inv .1, visited .visit .ensures .size),
       c .count-back .ensures,
-      done-back (turn-onward _ (turn .loop .inv .2) _ _ _ (turn .loop .inv .3) (chosen .before .before .corner-at .ensures) (chosen .before .choose .ensures)
-          (chosen .choose2 .ensures) (visited .visit .ensures) (c .before .before .before .first .given .1)) found,
+      done-back (turn .loop .inv .0) (turn-onward _ (turn .loop .inv .2) _ _ _ (turn .loop .inv .3) (chosen .before .before .corner-at .ensures) (chosen .before .choose .ensures)
+          (chosen .choose2 .ensures) (visited .visit .ensures) (turn .loop .inv .0) (c .before .before .before .end .given .1)) found,
     )
 
 point-requires : tie.Need-point-requires Inv-loop μ-loop
@@ -124,13 +125,13 @@ fill-spec =
     (tie.spec
     Inv-loop
     μ-loop
-    add-next
     loop-holds
     corner-at-requires
     choose-requires
     choose-requires-2
+    add-visit
     visit-requires
-    enum-known-first
+    enum-known-end
     enum-told
     same-length
     returns

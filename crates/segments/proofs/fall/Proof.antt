@@ -18,30 +18,22 @@ returns : tie.Need-returns
 returns c =
     fell-clash _ _ _ (omega arith)
 
-next-standing-requires : tie.Need-next-standing-requires
-next-standing-requires c κs = search needs
+next-end-requires : tie.Need-next-end-requires
+next-end-requires c κs = search needs
 
 same-length : tie.Need-same-length
 same-length c = search needs
 
 returns-2 : tie.Need-returns-2
 returns-2 c =
-    fell-none _ _ _ (c .before .before .before .before .before .before .before .pre .0) (c .before .before .before .before .before .before .before .pre .1) (omega arith) (c .before .next-standing .ensures) (omega arith)
-
-mul-wide : tie.Need-mul-wide
-mul-wide c = search needs
-
-slice-read-wide-2 : tie.Need-slice-read-wide-2
-slice-read-wide-2 c = search needs
-
-wide-requires-2 : tie.Need-wide-requires-2
-wide-requires-2 c κs = search needs
+    fell-none _ _ _ (omega (arith, c .before .before .before .before .before .before .before .pre .0)) (c .before .before .before .before .before .before .before .pre .1) (omega (arith, c .before .before .before .before .wide .ensures .0, c .before .before .before .if1 .left)) (c .before .next-end .ensures .0) (omega arith)
 
 sub-cells : tie.Need-sub-cells
 sub-cells c = search needs
 
 cast-cells : tie.Need-cast-cells
-cast-cells c = search needs
+cast-cells c =
+    omega (arith, c .before .before .next-end .ensures .2)
 
 mul-cells : tie.Need-mul-cells
 mul-cells c = search needs
@@ -54,8 +46,8 @@ same-length-2 c = search needs
 
 returns-3 : tie.Need-returns-3
 returns-3 c =
-    let d = c .before .wide2 .ensures in
-    fell-less _ _ _ (c .before .before .before .before .before .before .before .before .before .before .pre .0) (c .before .before .before .before .before .before .before .before .before .before .pre .1) (omega arith) (c .before .before .before .before .next-standing .ensures) (omega arith) _ _ (d .0) (omega arith) refl
+    let found = c .before .before .next-end .ensures in
+    fell-less _ _ _ (omega (arith, c .before .before .before .before .before .before .before .before .pre .0)) (c .before .before .before .before .before .before .before .before .pre .1) (omega (arith, c .before .before .before .before .before .wide .ensures .0, c .before .before .before .before .if1 .left)) (found .0) (omega arith) _ _ (found .1 (omega arith)) (omega arith) refl
 
 latest-standing-requires : tie.Need-latest-standing-requires
 latest-standing-requires c κs = search needs
@@ -68,15 +60,13 @@ same-length-3 c = search needs
 
 returns-4 : tie.Need-returns-4
 returns-4 c =
-    let next = c .before .before .before .before .before .before .before .before .before .before .before .next-standing .ensures in
-    let d = c .before .before .before .before .before .before .before .before .wide2 .ensures in
-    let pre = c .before .before .before .before .before .before .before .before .before .before .before .before .before .before .before .before .before .pre in
-    fell-spend _ _ _ (pre .0) (pre .1) (omega arith) next (omega arith) (omega (arith, d .0)) (c .before .before .before .before .before .before .before .before .before .before .before .before .before .before .wide .ensures .0) (c .before .before .before .before .before .latest-standing .ensures) _ (omega arith)
+    let found = c .before .before .before .before .before .before .before .before .before .next-end .ensures in
+    fell-spend _ _ _ (omega (arith, c .before .before .before .before .before .before .before .before .before .before .before .before .before .before .before .pre .0)) (c .before .before .before .before .before .before .before .before .before .before .before .before .before .before .before .pre .1) (omega (arith, c .before .before .before .before .before .before .before .before .before .before .before .before .wide .ensures .0, c .before .before .before .before .before .before .before .before .before .before .before .if1 .left)) (found .0) (omega arith) (omega (arith, found .1 (omega arith), c .before .before .before .before .before .before .before .if3 .left)) (c .before .before .before .before .before .before .before .before .before .before .before .before .wide .ensures .0) (c .before .before .before .before .before .latest-standing .ensures) _ (omega arith)
     (c .before .before .spend .ensures)
 
 join-requires : tie.Need-join-requires
 join-requires c κs =
-    let after = next-after (c .before .before .before .before .before .before .before .before .before .before .before .before .before .before .pre .0) (c .before .before .before .before .before .before .before .before .before .before .before .before .before .before .args .cells .now) (c .before .before .before .before .before .before .before .before .next-standing .ensures) in
+    let after = next-after (omega (arith, c .before .before .before .before .before .before .before .before .before .before .before .before .pre .0)) (c .before .before .before .before .before .before .before .before .before .before .before .before .args .cells .now) (c .before .before .before .before .before .before .next-end .ensures .0) in
     omega (arith, after, c .before .before .latest-standing .ensures .before)
 
 same-length-4 : tie.Need-same-length-4
@@ -84,10 +74,8 @@ same-length-4 c = search needs
 
 returns-5 : tie.Need-returns-5
 returns-5 c =
-    let next = c .before .before .before .before .before .before .before .before .before .before .before .next-standing .ensures in
-    let d = c .before .before .before .before .before .before .before .before .wide2 .ensures in
-    let pre = c .before .before .before .before .before .before .before .before .before .before .before .before .before .before .before .before .before .pre in
-    fell-join _ _ _ (pre .0) (pre .1) (omega arith) next (omega arith) (omega (arith, d .0)) (c .before .before .before .before .before .before .before .before .before .before .before .before .before .before .wide .ensures .0) (c .before .before .before .before .before .latest-standing .ensures) _ (omega arith)
+    let found = c .before .before .before .before .before .before .before .before .before .next-end .ensures in
+    fell-join _ _ _ (omega (arith, c .before .before .before .before .before .before .before .before .before .before .before .before .before .before .before .pre .0)) (c .before .before .before .before .before .before .before .before .before .before .before .before .before .before .before .pre .1) (omega (arith, c .before .before .before .before .before .before .before .before .before .before .before .before .wide .ensures .0, c .before .before .before .before .before .before .before .before .before .before .before .if1 .left)) (found .0) (omega arith) (omega (arith, found .1 (omega arith), c .before .before .before .before .before .before .before .if3 .left)) (c .before .before .before .before .before .before .before .before .before .before .before .before .wide .ensures .0) (c .before .before .before .before .before .latest-standing .ensures) _ (omega arith)
     (c .before .before .join .ensures)
 
 pub fall-spec : {M : Type 1} → statement M
@@ -97,12 +85,9 @@ fall-spec =
     slice-read-wide
     wide-requires
     returns
-    next-standing-requires
+    next-end-requires
     same-length
     returns-2
-    mul-wide
-    slice-read-wide-2
-    wide-requires-2
     sub-cells
     cast-cells
     mul-cells

@@ -23,6 +23,9 @@ part-fall-start c = search needs
 part-fall-end : tie.Need-part-fall-end
 part-fall-end c = search needs
 
+add-fall : tie.Need-add-fall
+add-fall c = search needs
+
 fall-requires : tie.Need-fall-requires
 fall-requires c κs = search needs
 
@@ -42,6 +45,7 @@ fall-in-spec =
     sub-fall
     part-fall-start
     part-fall-end
+    add-fall
     fall-requires
     same-length
     returns)

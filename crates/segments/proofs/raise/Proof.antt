@@ -1,14 +1,21 @@
--- `segments::raise` meets its contract: each of its four returns is one tag of `risen`, by the laws of segments_model's RaiseLaws. Assumes nothing.
+-- `segments::raise` meets its contract: each of its three returns is a tag of `risen`, by the laws of segments_model's RaiseLaws. Assumes nothing.
 use mathlib.Core.Path.{sym, _∙_}
 use native.Mathlib.Omega.{arith}
-use Rattle.segments_model.proofs.RaiseLaws.{risen-lowered, risen-still, risen-joined, risen-spent}
+use Rattle.segments_model.proofs.RaiseLaws.{risen-lowered, risen-joined, risen-spent}
 use borrow.Author.Needs.{needs}
 use Rattle.segments.proofs.raise.Statement.{statement}
 use Rattle.segments.proofs.raise.Tie as tie
 
+mul-lift : tie.Need-mul-lift
+mul-lift c = search needs
+
 add-lift : tie.Need-add-lift
 add-lift c =
-    omega (arith, c .before .before .before .pre .1, c .before .before .before .pre .2, c .before .before .before .pre .3 .inside (c .before .if1 .taken))
+    omega (arith, c .before .before .before .pre .2, c .before .before .before .pre .3 .inside (c .before .if1 .taken))
+
+add-lift-2 : tie.Need-add-lift-2
+add-lift-2 c =
+    omega (arith, c .before .before .before .pre .2, c .before .before .before .pre .3 .inside (c .before .if1 .taken))
 
 lift-requires : tie.Need-lift-requires
 lift-requires c κs =
@@ -21,20 +28,16 @@ returns : tie.Need-returns
 returns c =
     c .before .before .lift .ensures ∙ sym (risen-lowered _ _ _ _ (c .before .before .before .before .if1 .taken))
 
-returns-2 : tie.Need-returns-2
-returns-2 c =
-    sym (risen-still _ _ _ _ (c .if2 .taken))
-
 unjoin-requires : tie.Need-unjoin-requires
 unjoin-requires c κs =
-    (c .before .before .before .before .before .pre .0, c .before .before .before .before .before .pre .1, c .before .before .before .before .before .pre .2, c .before .before .before .before .before .pre .3 .low (c .before .before .before .if1 .left))
+    (c .before .before .before .before .pre .0, c .before .before .before .before .pre .1, c .before .before .before .before .pre .2, c .before .before .before .before .pre .3 .low (c .before .before .if1 .left))
 
 same-length-2 : tie.Need-same-length-2
 same-length-2 c = search needs
 
-returns-3 : tie.Need-returns-3
-returns-3 c =
-    c .before .before .unjoin .ensures ∙ sym (risen-joined _ _ _ _ (c .before .before .before .before .if3 .taken))
+returns-2 : tie.Need-returns-2
+returns-2 c =
+    c .before .before .unjoin .ensures ∙ sym (risen-joined _ _ _ _ (c .before .before .before .before .if2 .taken))
 
 slice-read-wide : tie.Need-slice-read-wide
 slice-read-wide c = search needs
@@ -44,29 +47,30 @@ wide-requires c κs = search needs
 
 unspend-requires : tie.Need-unspend-requires
 unspend-requires c κs =
-    omega (arith, c .before .before .before .before .before .before .before .pre .0, c .before .before .before .before .before .before .before .pre .1, c .before .before .before .before .before .before .before .pre .2, c .before .before .before .before .before .before .before .pre .3 .low (c .before .before .before .before .before .if1 .left), c .before .before .before .before .before .before .before .pre .3 .spent, c .before .wide .ensures .0)
+    omega (arith, c .before .before .before .before .before .before .pre .0, c .before .before .before .before .before .before .pre .1, c .before .before .before .before .before .before .pre .2, c .before .before .before .before .before .before .pre .3 .low (c .before .before .before .before .if1 .left), c .before .before .before .before .before .before .pre .3 .spent, c .before .wide .ensures .0)
 
 same-length-3 : tie.Need-same-length-3
 same-length-3 c = search needs
 
-returns-4 : tie.Need-returns-4
-returns-4 c =
-    c .before .before .unspend .ensures ∙ sym (risen-spent _ _ _ _ (c .before .before .before .before .before .before .before .before .if1 .left) (c .before .before .before .before .before .before .before .if2 .left) (c .before .before .before .before .before .before .if3 .left) (c .before .before .before .before .wide .ensures .0))
+returns-3 : tie.Need-returns-3
+returns-3 c =
+    c .before .before .unspend .ensures ∙ sym (risen-spent _ _ _ _ (c .before .before .before .before .before .before .before .if1 .left) (c .before .before .before .before .before .before .if2 .left) (c .before .before .before .before .wide .ensures .0))
 
 pub raise-spec : {M : Type 1} → statement M
 raise-spec =
     tie.close
     (tie.spec
+    mul-lift
     add-lift
+    add-lift-2
     lift-requires
     same-length
     returns
-    returns-2
     unjoin-requires
     same-length-2
-    returns-3
+    returns-2
     slice-read-wide
     wide-requires
     unspend-requires
     same-length-3
-    returns-4)
+    returns-3)

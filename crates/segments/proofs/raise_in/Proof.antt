@@ -25,11 +25,14 @@ part-raise-start c = search needs
 part-raise-end : tie.Need-part-raise-end
 part-raise-end c = search needs
 
+add-raise : tie.Need-add-raise
+add-raise c = search needs
+
 raise-requires : tie.Need-raise-requires
 raise-requires c κs =
     let pre = c .before .before .pre in
     let args = c .before .before .args in
-    (pre .0, search needs, pre .2, part-mid (args .base) (args .n) (λ l. Raisable (args .n) (args .slot) (args .tag) (args .note) l) (args .cells .now) (pre .3))
+    (omega (arith, pre .0), search needs, omega (arith, pre .2), part-mid (args .base) (args .n) (λ l. Raisable (args .n + 1) (args .slot) (args .tag) (args .note) l) (args .cells .now) (pre .3))
 
 same-length : tie.Need-same-length
 same-length c = search needs
@@ -37,7 +40,7 @@ same-length c = search needs
 returns : tie.Need-returns
 returns c =
     let args = c .before .before .before .before .before .args in
-    over-lent (args .base) (args .n + 1) (risen (args .n) (args .slot) (args .tag) (args .note)) {l = args .cells .now} (omega arith)
+    over-lent (args .base) (args .n + 2) (risen (args .n + 1) (args .slot) (args .tag) (args .note)) {l = args .cells .now} (omega arith)
     (lent _ _ _ _ _ (omega arith) (c .before .before .raise .kept .0) (c .before .before .raise .ensures))
 
 pub raise-in-spec : {M : Type 1} → statement M
@@ -50,6 +53,7 @@ raise-in-spec =
     sub-raise
     part-raise-start
     part-raise-end
+    add-raise
     raise-requires
     same-length
     returns)

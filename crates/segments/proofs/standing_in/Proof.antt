@@ -1,4 +1,4 @@
--- `segments::standing_in` meets its contract: the part that was lent to `standing` has n + 1 cells. Assumes nothing.
+-- `segments::standing_in` meets its contract: the part that was lent to `standing` has n + 2 cells. Assumes nothing.
 use mathlib.Core.Path.{_≡_}
 use Prim.Native.Nat.{_+_, _-_}
 use native.Mathlib.Omega.{arith}
@@ -30,7 +30,7 @@ standing-requires c κs = search needs
 returns : tie.Need-returns
 returns c =
     let a = c .before .before .before .args in
-    let size : a .base + a .n + 1 - a .base ≡ a .n + 1 = omega arith in
+    let size : a .base + a .n + 2 - a .base ≡ a .n + 2 = omega arith in
     rw size at (c .standing .ensures)
 
 pub standing-in-spec : {M : Type 1} → statement M

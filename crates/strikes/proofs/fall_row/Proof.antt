@@ -1,5 +1,6 @@
 -- `strikes::fall_row` meets its contract: the answer of `segments::fall_in`, read as a clash, a reach, a tag and a note (`dropped-lowered` to
 -- `dropped-reached`). Assumes nothing.
+use mathlib.Core.Path.{_∙_}
 use native.Mathlib.Omega.{arith}
 use Rattle.strikes.proofs.FallLaws.{lowered-after, dropped-lowered, dropped-still, dropped-joined, dropped-clash, dropped-reached}
 use borrow.Author.Needs.{needs}
@@ -20,7 +21,11 @@ enum-known-hit c = search needs
 
 sub-fell-by : tie.Need-sub-fell-by
 sub-fell-by c =
-    omega (arith, lowered-after (c .before .before .before .before .before .before .before .before .args .row) (c .before .before .before .before .before .fall-in .ensures) (c .before .hit .given .1))
+    omega (arith, lowered-after (c .before .before .before .before .before .before .before .before .args .row) (c .before .before .before .before .before .before .before .before .args .n) (c .before .before .before .before .before .fall-in .ensures) (c .before .hit .given .1))
+
+sub-fell-by-2 : tie.Need-sub-fell-by-2
+sub-fell-by-2 c =
+    omega (arith, lowered-after (c .before .before .before .before .before .before .before .before .args .row) (c .before .before .before .before .before .before .before .before .args .n) (c .before .before .before .before .before .fall-in .ensures) (c .before .hit .given .1))
 
 fell-by-requires : tie.Need-fell-by-requires
 fell-by-requires c κs = search needs
@@ -30,8 +35,7 @@ same-length c = search needs
 
 returns : tie.Need-returns
 returns c =
-    let fall-in = c .before .before .before .before .before .before .fall-in in
-    dropped-lowered (c .before .before .before .before .before .before .before .before .before .args .row) (fall-in .ensures) (c .before .before .hit .given .1) (c .fell-by .ensures)
+    dropped-lowered (c .before .before .before .before .before .before .before .before .before .args .row) (c .before .before .before .before .before .before .before .before .before .args .n) (c .before .before .before .before .before .before .fall-in .ensures) (c .before .before .before .before .before .before .before .before .before .pre .2) (c .before .before .hit .given .1) (c .fell-by .ensures)
 
 enum-told : tie.Need-enum-told
 enum-told c = search needs
@@ -44,8 +48,7 @@ same-length-2 c = search needs
 
 returns-2 : tie.Need-returns-2
 returns-2 c =
-    let fall-in = c .before .before .before .before .before .fall-in in
-    dropped-still (c .before .before .before .before .before .before .before .before .args .row) (fall-in .ensures) (c .before .enum-told .given .1) (c .fell-by2 .ensures)
+    dropped-still (c .before .before .before .before .before .before .before .before .args .row) (c .before .before .before .before .before .before .before .before .args .n) (c .before .before .before .before .before .fall-in .ensures) (c .before .enum-told .given .1) (c .fell-by2 .ensures)
 
 enum-known-hit-2 : tie.Need-enum-known-hit-2
 enum-known-hit-2 c = search needs
@@ -58,8 +61,7 @@ same-length-3 c = search needs
 
 returns-3 : tie.Need-returns-3
 returns-3 c =
-    let fall-in = c .before .before .before .before .before .before .fall-in in
-    dropped-joined (c .before .before .before .before .before .before .before .before .before .args .row) (fall-in .ensures) (c .before .before .hit2 .given .1) (c .fell-by3 .ensures)
+    dropped-joined (c .before .before .before .before .before .before .before .before .before .args .row) (c .before .before .before .before .before .before .before .before .before .args .n) (c .before .before .before .before .before .before .fall-in .ensures) (c .before .before .hit2 .given .1) (c .fell-by3 .ensures)
 
 enum-told-2 : tie.Need-enum-told-2
 enum-told-2 c = search needs
@@ -72,11 +74,13 @@ same-length-4 c = search needs
 
 returns-4 : tie.Need-returns-4
 returns-4 c =
-    let fall-in = c .before .before .before .before .before .fall-in in
-    dropped-clash (c .before .before .before .before .before .before .before .before .args .row) (fall-in .ensures) (c .before .enum-told2 .given .1) (c .fell-by4 .ensures)
+    dropped-clash (c .before .before .before .before .before .before .before .before .args .row) (c .before .before .before .before .before .before .before .before .args .n) (c .before .before .before .before .before .fall-in .ensures) (c .before .enum-told2 .given .1) (c .fell-by4 .ensures)
 
 enum-known-hit-3 : tie.Need-enum-known-hit-3
 enum-known-hit-3 c = search needs
+
+up-to-requires : tie.Need-up-to-requires
+up-to-requires c κs = search needs
 
 fell-by-requires-5 : tie.Need-fell-by-requires-5
 fell-by-requires-5 c κs = search needs
@@ -86,8 +90,8 @@ same-length-5 c = search needs
 
 returns-5 : tie.Need-returns-5
 returns-5 c =
-    let fall-in = c .before .before .before .before .before .before .fall-in in
-    dropped-reached (c .before .before .before .before .before .before .before .before .before .args .row) (fall-in .ensures) (c .before .before .hit3 .given .1) (c .fell-by5 .ensures)
+    let parts = c .fell-by5 .ensures in
+    dropped-reached (c .before .before .before .before .before .before .before .before .before .before .args .row) (c .before .before .before .before .before .before .before .before .before .before .args .n) (c .before .before .before .before .before .before .before .fall-in .ensures) (c .before .before .before .hit3 .given .1) (parts .0, parts .1 ∙ c .before .up-to .ensures, parts .2, parts .3)
 
 pub fall-row-spec : {M : Type 1} → statement M
 fall-row-spec =
@@ -98,6 +102,7 @@ fall-row-spec =
     fall-in-requires
     enum-known-hit
     sub-fell-by
+    sub-fell-by-2
     fell-by-requires
     same-length
     returns
@@ -114,6 +119,7 @@ fall-row-spec =
     same-length-4
     returns-4
     enum-known-hit-3
+    up-to-requires
     fell-by-requires-5
     same-length-5
     returns-5)

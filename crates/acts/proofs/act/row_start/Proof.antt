@@ -1,4 +1,4 @@
--- `acts::act::row_start` meets its contract: the product fits, since there are at most 64 rows of at most 2049 cells. Assumes nothing.
+-- `acts::act::row_start` meets its contract: the product fits, since there are at most 64 rows of at most 258 cells. Assumes nothing.
 use mathlib.Core.Path.{refl}
 use Prim.Native.Nat.{_≤_, _+_}
 use native.Mathlib.Omega.{arith}
@@ -12,7 +12,7 @@ add-result c = search needs
 
 mul-result : tie.Need-mul-result
 mul-result c =
-    let a : c .before .args .v ≤ 32 = omega arith in let b : c .before .args .n + 1 ≤ 2049 = omega arith in omega (arith, mul-le-mul a b)
+    let a : c .before .args .v ≤ 32 = omega arith in let b : c .before .args .n + 2 ≤ 258 = omega arith in omega (arith, mul-le-mul a b)
 
 returns : tie.Need-returns
 returns c =
@@ -29,7 +29,7 @@ add-result-3 c = search needs
 
 mul-result-2 : tie.Need-mul-result-2
 mul-result-2 c =
-    let a : c .before .args .k + c .before .args .v ≤ 64 = omega arith in let b : c .before .args .n + 1 ≤ 2049 = omega arith in omega (arith, mul-le-mul a b)
+    let a : c .before .args .k + c .before .args .v ≤ 64 = omega arith in let b : c .before .args .n + 2 ≤ 258 = omega arith in omega (arith, mul-le-mul a b)
 
 returns-2 : tie.Need-returns-2
 returns-2 c =

@@ -25,7 +25,7 @@ standing-in-requires c κs =
 
 cast-t11 : tie.Need-cast-t11
 cast-t11 c =
-    let most : c .standing-in .result ≤ c .before .before .before .before .before .args .n = walls-most (gaps (part (c .before .row-start .result) (c .before .before .before .before .before .args .n + 1) (c .before .before .before .before .before .args .cells .now))) (c .before .before .before .before .before .args .n) (c .standing-in .result) (c .standing-in .ensures) in omega (arith, most, c .before .before .before .before .before .pre .slots-fit)
+    let most : c .standing-in .result ≤ c .before .before .before .before .before .args .n = walls-most (gaps (part (c .before .row-start .result) (c .before .before .before .before .before .args .n + 2) (c .before .before .before .before .before .args .cells .now))) (c .before .before .before .before .before .args .n) (c .standing-in .result) (c .standing-in .ensures) in omega (arith, most, c .before .before .before .before .before .pre .slots-fit)
 
 returns-2 : tie.Need-returns-2
 returns-2 c =
