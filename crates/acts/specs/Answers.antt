@@ -11,6 +11,7 @@ use mathlib.Core.List.{List}
 use Prim.Native.Nat.{ℕ, _+_, _*_, _≤_, _<_}
 use lib.ListN.{length}
 use Rattle.closing_model.specs.Table.{Table}
+use Rattle.filter_model.specs.Open.{cellsSize}
 use Rattle.filter_model.specs.Trail.{valueAt}
 use Rattle.session_model.specs.Calls as Calls
 use Rattle.session_model.specs.Machine.{act}
@@ -57,7 +58,7 @@ pub record Backing (masks cells trail heights : List ℕ) (n k : ℕ) (session :
   pub marked : 0 < session .marks
 
 pub record Counting (cells : List ℕ) (n k v : ℕ) : Type 0 where
-  pub rows : (k + k) * (n + 2) ≤ length cells
+  pub rows : cellsSize n k ≤ length cells
   pub slots-fit : n ≤ 256
   pub values-fit : k ≤ 32
   pub value-in : v < k

@@ -21,6 +21,7 @@ use Rattle.settling_model.specs.Settled.{LacksAt}
 use Rattle.settling_model.specs.Settling.{settling}
 use Rattle.settling_model.specs.Stable.{Stable, tableBounds}
 use Rattle.filter_model.specs.Mirror.{Mirror}
+use Rattle.filter_model.specs.Open.{cellsSize}
 use Rattle.filter_model.specs.Trail.{Restores}
 use Rattle.session_model.specs.State.{Rules, State}
 use Rattle.session_model.specs.Walls.{wallCount}
@@ -31,7 +32,7 @@ use Rattle.acts.specs.declared.Standing.the-variants.{OpenedDead, Live, 
 
 pub record Room (masks cells trail : List ℕ) (n k : ℕ) : Type 0 where
   pub masks-in : length masks ≡ n
-  pub rows : (k + k) * (n + 2) ≤ length cells
+  pub rows : cellsSize n k ≤ length cells
   -- a slot fits a byte of the trail, a value the mask, and a height 16 bits
   pub slots-fit : n ≤ 256
   pub values-fit : k ≤ 32

@@ -5,8 +5,8 @@ use mathlib.Core.Path.{_≡_, refl, sym, ap, _∙_}
 use mathlib.Core.Bool.{Bool, true, false}
 use mathlib.Core.List.{List}
 use mathlib.Core.Option.{Option, none, some}
-use Prim.Native.Nat.{ℕ, _≤_}
-use native.Mathlib.Nat.{le-trans, mul-le-mul}
+use Prim.Native.Nat.{ℕ, _+_, _*_, _≤_}
+use native.Mathlib.Nat.{mul-le-mul}
 use native.Mathlib.Omega.{arith}
 use lib.ListN.{length}
 use Rattle.book.specs.Layout.{slots, values, masks, listOf, maskAt}
@@ -82,14 +82,16 @@ module _ (b : List ℕ) {L U : List ℕ} (book : ClosedBook b L U) where
 -- ---- StateRoom
 
 -- arrays for 256 slots and 32 values
-pub state-room : {b M : List ℕ} (cells trail L U : List ℕ) → Ready b M → 16512 ≤ length cells → 25088 ≤ length trail → 257 ≤ length L → 257 ≤ length U
+pub state-room : {b M : List ℕ} (cells trail L U : List ℕ) → Ready b M → 16528 ≤ length cells → 25088 ≤ length trail → 257 ≤ length L → 257 ≤ length U
     → StateRoom b M cells trail L U
 state-room {b} cells trail L U ready long-cells long-trail long-L long-U =
     let fit = ready .book in
+    let rows : (values b + values b) * (slots b + 2) ≤ 64 * 258 =
+    mul-le-mul {n₂ = 64} {m₂ = 258} (omega (arith, fit .values-most)) (omega (arith, fit .slots-most)) in
     record {
       rises = record { book = fit; lowers = omega (arith, fit .slots-most); uppers = omega (arith, fit .slots-most) };
       masks-in = ready .masks;
-      cells-in = le-trans (mul-le-mul {n₂ = 64} {m₂ = 258} (omega (arith, fit .values-most)) (omega (arith, fit .slots-most))) long-cells;
+      cells-in = omega (arith, long-cells, rows);
       trail-in = omega (arith, mul-le-mul {n₂ = 32} {m₂ = 256} (fit .values-most) (fit .slots-most), fit .slots-most);
     }
 

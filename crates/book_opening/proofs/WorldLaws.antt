@@ -14,6 +14,7 @@ use Rattle.book.specs.Layout.{slots, values, masks}
 use Rattle.book.proofs.LayoutLaws.{length-masks, getD-masks}
 use Rattle.settling_model.specs.Settled.{LacksAt}
 use Rattle.settling_model.proofs.SettledLaws.{lacks-not-has, not-has-lacks}
+use Rattle.filter_model.specs.Open.{cellsSize}
 use Rattle.filter_model.specs.State.{World}
 use Rattle.settle_fault.specs.Ready.{FitBook}
 
@@ -44,7 +45,7 @@ module _ (b : List ℕ) (fit : FitBook b) where
             fit .mask s slot .nonempty (sym (getD-masks b s slot) ∙ empty);
       }
 
-  pub book-world : (cells trail : List ℕ) → (values b + values b) * (slots b + 2) ≤ length cells → 2 * slots b + 3 * (values b * slots b) ≤ length trail
+  pub book-world : (cells trail : List ℕ) → cellsSize (slots b) (values b) ≤ length cells → 2 * slots b + 3 * (values b * slots b) ≤ length trail
       → World (masks b) cells trail (slots b) (values b) 0
   book-world cells trail rows entries =
       let ones : total (masks b) ≤ values b * slots b = rw (length-masks b) at (total-most (values b) (masks b) book-below) in

@@ -13,6 +13,7 @@ use Rattle.book.specs.Layout.{slots, values}
 use Rattle.closing_model.specs.Table.{view}
 use Rattle.settling_model.specs.Book.{closedBook, settledBook}
 use Rattle.filter_model.specs.Mirror.{Mirror}
+use Rattle.filter_model.specs.Open.{cellsSize}
 use Rattle.filter_model.specs.Rises.{TableRises}
 use Rattle.filter_model.specs.State.{World}
 use Rattle.filter.specs.declared.Outcome.{Outcome}
@@ -22,7 +23,7 @@ use Rattle.book_rises.specs.BookRises.{RisesRoom}
 pub record StateRoom (b masks cells trail L U : List ℕ) : Type 0 where
   pub rises : RisesRoom b L U
   pub masks-in : length masks ≡ slots b
-  pub cells-in : (values b + values b) * (slots b + 2) ≤ length cells
+  pub cells-in : cellsSize (slots b) (values b) ≤ length cells
   pub trail-in : 2 * slots b + 3 * (values b * slots b) ≤ length trail
 
 pub record BookState (b masks cells trail L U : List ℕ) (h : ℕ) : Type 0 where

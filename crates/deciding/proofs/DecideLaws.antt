@@ -101,6 +101,7 @@ module _ {masks cells trail heights : List ℕ} {n k : ℕ} {session : Session} 
       let represents = deciding .running .represents in
       record {
         world = working-world (represents .room) (live-working represents (deciding .live));
+        opens = live-working represents (deciding .live) .mirror .opens;
         slot-in = deciding .slot-in;
         value-in = deciding .value-in;
       }

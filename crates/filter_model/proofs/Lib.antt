@@ -1,5 +1,6 @@
 pub mod ContradictionLaws
 pub mod MirrorLaws
+pub mod OpenLaws
 pub mod RemovalLaws
 pub mod RisesLaws
 pub mod RowLaws

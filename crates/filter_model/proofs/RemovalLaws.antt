@@ -5,6 +5,7 @@ use mathlib.Core.Path.{_≡_, refl, sym, ap, _∙_}
 use mathlib.Core.Bool.{Bool, true, false}
 use mathlib.Core.List.{List}
 use Prim.Native.Nat.{ℕ, _+_, _*_, _%_, _≤_, _<_, zero-le}
+use native.Mathlib.Nat.{le-of-eq}
 use native.Mathlib.Omega.{arith}
 use lib.Count.{ones}
 use lib.ListN.{length, getD, set, length-set}
@@ -16,10 +17,12 @@ use Rattle.segments_model.specs.Part.{part, Lent}
 use Rattle.segments_model.specs.Raise.{risen}
 use Rattle.segments_model.proofs.PartLaws.{over-back}
 use Rattle.filter_model.specs.Mirror.{row, cellsOf}
+use Rattle.filter_model.specs.Open.{wordAt, openBit, closeSlot, openSlot, OpenSlots}
 use Rattle.filter_model.specs.State.{Ready, Moved, Removed}
 use Rattle.filter_model.specs.Strike.{Dropped}
 use Rattle.filter_model.specs.Trail.{written, noted, RowRaised, TakenBack, Trailed}
 use Rattle.filter_model.proofs.ContradictionLaws.{left-in}
+use Rattle.filter_model.proofs.OpenLaws.{word-inside, open-lent, closed-same, closeSlot-back, open-strike, open-single}
 use Rattle.filter_model.proofs.RowLaws.{row-inside, row-first, lent-row}
 use Rattle.filter_model.proofs.StateLaws.{moved-strike, ready-slot, ready-byte, ready-value, ready-room}
 use Rattle.filter_model.proofs.StoreLaws.{many-free, fixed-unique, strike-lacks}
@@ -50,9 +53,10 @@ module _ {masks cells trail : List ℕ} {n k top slot v : ℕ} (ready : Ready ma
   left-at : getD after slot 0 ≡ clearBit (getD masks slot 0) v
   left-at = getD-set-same masks slot (clearBit (getD masks slot 0) v) 0 (ready-slot ready)
 
-  moved : {cells′ trail′ : List ℕ} → length cells′ ≡ length cells → Trailed n k masks cells trail top after cells′ trail′ (top + 1)
+  moved : {cells′ trail′ : List ℕ} → length cells′ ≡ length cells → (OpenSlots n k masks cells → OpenSlots n k after cells′)
+      → Trailed n k masks cells trail top after cells′ trail′ (top + 1)
       → Moved n k masks cells trail top after cells′ trail′ (top + 1)
-  moved size trailed = moved-strike v (ready-slot ready) has (λ none. some (m-is ∙ none)) size trailed
+  moved size opens trailed = moved-strike v (ready-slot ready) has (λ none. some (m-is ∙ none)) size opens trailed
 
   -- the slot had more than one value
   many-before : 1 < ones (getD masks slot 0)
@@ -63,7 +67,7 @@ module _ {masks cells trail : List ℕ} {n k top slot v : ℕ} (ready : Ready ma
   module _ {cells₁ : List ℕ} {z a g x : ℕ} (z-is : z ≡ getD cells (v * (n + 2)) 0) (z≤slot : z ≤ slot)
       (lent₁ : Lent (v * (n + 2)) (n + 2) (λ l l′. Dropped n slot l l′ a g x) cells cells₁) where
     low-raised : RowRaised n v slot g x cells₁ cells
-    low-raised = row-raised (k + k) lent₁ (omega (arith, ready .value-in)) (ready .world .rows) (free true v z z-is z≤slot)
+    low-raised = row-raised (k + k) lent₁ (omega (arith, ready .value-in)) (omega (arith, ready .world .rows)) (free true v z z-is z≤slot)
 
     -- the note fits a byte, and the tag what a value leaves of one
     pub low-note : x < 256
@@ -104,7 +108,9 @@ module _ {masks cells trail : List ℕ} {n k top slot v : ℕ} (ready : Ready ma
         removed-plain many =
             rw (cut-masks, trail-is)
             (record {
-              moved = moved (lent₁ .size) (trailed-plain (ready-room ready has) (ready-value ready) (rw trail-is at (taken-plain many)));
+              moved =
+                  moved (lent₁ .size) (open-strike slot v (ready-slot ready) (open-lent n k v lent₁ (omega (arith, ready .value-in))))
+                  (trailed-plain (ready-room ready has) (ready-value ready) (rw trail-is at (taken-plain many)));
               cut = strike-lacks masks slot v (ready-slot ready);
               low-in = lent₁ .does .inside;
               high-in = zero-le;
@@ -123,7 +129,7 @@ module _ {masks cells trail : List ℕ} {n k top slot v : ℕ} (ready : Ready ma
 
           high-raised : RowRaised n (k + w) slot f y cells₂ cells₁
           high-raised =
-              let same = lent-row n (k + k) v (k + w) lent₁ (ready .world .rows) (omega (arith, w<k)) (λ e. absurd (omega (arith, ready .value-in))) in
+              let same = lent-row n (k + k) v (k + w) lent₁ (omega (arith, ready .world .rows)) (omega (arith, w<k)) (λ e. absurd (omega (arith, ready .value-in))) in
               row-raised (k + k) lent₂ (omega (arith, w<k)) (omega (arith, lent₁ .size, ready .world .rows)) (rw same (free false w u u-is u≤slot))
 
           pub high-note : y < 256
@@ -132,8 +138,21 @@ module _ {masks cells trail : List ℕ} {n k top slot v : ℕ} (ready : Ready ma
           pub high-tag : f ≤ 3
           high-tag = high-raised .raisable .known
 
-          module _ {trail″ : List ℕ} (note-is : trail″ ≡ noted n trail′ slot f y) where
-            taken-single : TakenBack n k (noted n (written n trail top slot v (g + 4) x) slot f y) slot v (g + 4) x after cells₂ masks cells
+          -- the slot is in the set of open ones, and its word among the cells
+          pub word-in : wordAt n k slot < length cells₂
+          word-in = word-inside n k slot cells₂ (ready-byte ready) (omega (arith, lent₁ .size, lent₂ .size, ready .world .rows))
+
+          pub was-open : openBit n k cells₂ slot ≡ 1
+          was-open =
+              open-lent n k (k + w) lent₂ (omega (arith, w<k)) slot ∙ open-lent n k v lent₁ (omega (arith, ready .value-in)) slot
+              ∙ ready .opens .each slot (ready .slot-in) many-before
+
+          module _ {cells₃ : List ℕ} (cells-are : cells₃ ≡ closeSlot n k slot cells₂) {trail″ : List ℕ} (note-is : trail″ ≡ noted n trail′ slot f y) where
+            closed-raised : (openBit n k (closeSlot n k slot cells₂) slot ≡ 0)
+                × RowRaised n (k + w) slot f y (openSlot n k slot (closeSlot n k slot cells₂)) cells₁
+            closed-raised = (closed-same n k slot cells₂ word-in, rw (closeSlot-back n k slot cells₂ word-in was-open) high-raised)
+
+            taken-single : TakenBack n k (noted n (written n trail top slot v (g + 4) x) slot f y) slot v (g + 4) x after (closeSlot n k slot cells₂) masks cells
             taken-single =
                 let on = written n trail top slot v (g + 4) x in
                 let long : 2 * n ≤ length on = omega (arith, written-size n trail top slot v (g + 4) x, ready-room ready has) in
@@ -149,22 +168,27 @@ module _ {masks cells trail : List ℕ} {n k top slot v : ℕ} (ready : Ready ma
                   upper = record {
                     fixed = λ q fixed.
                         let same : q ≡ w = fixed-unique m q w (m-is ∙ sym left-at ∙ fixed) single in
-                        rw (same, noted-note n on slot f y (ready .slot-in) long, noted-tag n on slot f y (ready .slot-in) long) (w<k, high-raised);
+                        rw (same, noted-note n on slot f y (ready .slot-in) long, noted-tag n on slot f y (ready .slot-in) long) (w<k, closed-raised .0, closed-raised .1);
                     free = λ none. absurd (none w (left-at ∙ sym m-is ∙ single));
                   };
                   lower = low-back (g + 4) (omega (arith, low-tag));
                 }
 
-            pub removed-single : Removed n k masks cells trail top masks′ cells₂ trail″ slot v x a y b w
+            pub removed-single : Removed n k masks cells trail top masks′ cells₃ trail″ slot v x a y b w
             removed-single =
-                rw (cut-masks, note-is, trail-is)
+                rw (cut-masks, cells-are, note-is, trail-is)
                 (record {
-                  moved = moved (lent₂ .size ∙ lent₁ .size) (trailed-single (ready-room ready has) (ready-value ready) f y (ready .slot-in) many-before taken-single);
+                  moved =
+                      moved (length-set cells₂ (wordAt n k slot) (clearBit (getD cells₂ (wordAt n k slot) 0) (slot % 16)) ∙ lent₂ .size ∙ lent₁ .size)
+                      (open-single slot v v (k + w) (ready-slot ready) (ready-byte ready) (ready .world .rows) lent₁ (omega (arith, ready .value-in)) lent₂
+                      (omega (arith, w<k)) (le-of-eq (fixed-single (clearBit (getD masks slot 0) v) w (sym m-is ∙ single))))
+                      (trailed-single (ready-room ready has) (ready-value ready) f y (ready .slot-in) many-before taken-single);
                   cut = strike-lacks masks slot v (ready-slot ready);
                   low-in = lent₁ .does .inside;
                   high-in = lent₂ .does .inside;
                   value-in = w<k;
                   tables = λ T mirror.
                       struck-single mirror slot v (ready-slot ready) (ready .value-in) has (ready .slot-in) cells₁ a (ready .world .rows) (λ none. some (m-is ∙ none))
-                      lent₁ (free true v z z-is z≤slot) cells₂ w b w<k (sym m-is ∙ single) lent₂ (free false w u u-is u≤slot);
+                      lent₁ (free true v z z-is z≤slot) cells₂ w b w<k (sym m-is ∙ single) lent₂ (free false w u u-is u≤slot)
+                      (ready-byte ready);
                 })

@@ -15,12 +15,14 @@ use Rattle.settling_model.proofs.TableBoundsLaws.{low-broken, high-broken}
 use Rattle.segments_model.specs.Lines.{lineOf, Rising, BrokenAt, Segments}
 use Rattle.segments_model.proofs.LinesLaws.{line-rising}
 use Rattle.filter_model.specs.Mirror.{boundLine, cellsOf, Mirror}
+use Rattle.filter_model.specs.Open.{OpenSlots}
 use Rattle.filter_model.specs.Rises.{risesOf, TableRises}
 
 pub rises-mirror : {n k : ℕ} {T : Table} {L U M cells : List ℕ} → TableRises n k T L U
     → ((kind : Bool) (v : ℕ) → v < k → (u : ℕ → ℕ) → Rising n v (risesOf kind L U) u → Segments kind n u M v (cellsOf kind n k v cells))
-    → Mirror n k T M cells
-rises-mirror {n} {k} {T} rises rows = record { rows = λ kind v v<k. rows kind v v<k (boundLine kind n T v) (rises .rises kind v v<k) }
+    → OpenSlots n k M cells → Mirror n k T M cells
+rises-mirror {n} {k} {T} rises rows opens =
+    record { rows = λ kind v v<k. rows kind v v<k (boundLine kind n T v) (rises .rises kind v v<k); opens = opens }
 
 pub broken-unstable : (n k : ℕ) (T : Table) (M : List ℕ) (kind : Bool) (v t : ℕ) → v < k → BrokenAt kind n (boundLine kind n T v) M v t
     → Unstable (tableBounds n k T) M

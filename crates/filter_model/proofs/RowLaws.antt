@@ -45,6 +45,10 @@ pub row-weaken : {kind : Bool} {n k : ℕ} {T : Table} {M M′ cells′ : List �
     → Row kind n k T M M′ cells′ x D → Row kind n k T M M′ cells′ x E
 row-weaken D-E r = record { segments = r .segments; spent = λ t corner none. ⊎-elim inl (λ d. inr (D-E t d)) (r .spent t corner none) }
 
+pub row-cells : {kind : Bool} {n k : ℕ} {T : Table} {M M′ cells′ cells″ : List ℕ} {x : ℕ} {D : ℕ → Type 0}
+    → cellsOf kind n k x cells″ ≡ cellsOf kind n k x cells′ → Row kind n k T M M′ cells′ x D → Row kind n k T M M′ cells″ x D
+row-cells same r = record { segments = rw same (r .segments); spent = r .spent }
+
 -- the mask m stored at the slot
 module _ {n k : ℕ} {T : Table} {M cells : List ℕ} (mirror : Mirror n k T M cells) (cells′ : List ℕ) (slot m : ℕ) (inside : slot < length M)
     (kind : Bool) (x : ℕ) (x<k : x < k) where

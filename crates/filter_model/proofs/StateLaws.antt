@@ -8,6 +8,7 @@ use lib.ListN.{length, getD, set}
 use Rattle.domains.specs.Mask.{clearBit}
 use Rattle.domains.specs.Masks.{HasAt}
 use Rattle.domains.proofs.MasksLaws.{subset-refl, subset-trans, subset-clearBit, total-clearBit}
+use Rattle.filter_model.specs.Open.{OpenSlots}
 use Rattle.filter_model.specs.State.{World, Ready, Moved}
 use Rattle.filter_model.specs.Trail.{Trailed}
 use Rattle.filter_model.proofs.RowLaws.{row-inside}
@@ -20,6 +21,7 @@ moved-refl n k masks cells trail h =
     record {
       within = subset-refl masks;
       alive = λ alive. alive;
+      opens = λ opens. opens;
       cells-size = refl;
       height = refl;
       trailed = trailed-refl n k masks cells trail h;
@@ -31,6 +33,7 @@ moved-trans first second =
     record {
       within = subset-trans (second .within) (first .within);
       alive = λ alive. second .alive (first .alive alive);
+      opens = λ opens. second .opens (first .opens opens);
       cells-size = second .cells-size ∙ first .cells-size;
       height = second .height ∙ first .height;
       trailed = trailed-trans (first .trailed) (second .trailed);
@@ -39,12 +42,14 @@ moved-trans first second =
 -- one value struck that was not the slot's last
 pub moved-strike : {n k : ℕ} {masks cells cells′ trail trail′ : List ℕ} {top slot : ℕ} (v : ℕ) → slot < length masks → HasAt masks slot v
     → (clearBit (getD masks slot 0) v ≡ 0 → ⊥) → length cells′ ≡ length cells
+    → (OpenSlots n k masks cells → OpenSlots n k (set masks slot (clearBit (getD masks slot 0) v)) cells′)
     → Trailed n k masks cells trail top (set masks slot (clearBit (getD masks slot 0) v)) cells′ trail′ (top + 1)
     → Moved n k masks cells trail top (set masks slot (clearBit (getD masks slot 0) v)) cells′ trail′ (top + 1)
-moved-strike {masks = masks} {slot = slot} v inside has some size trailed =
+moved-strike {masks = masks} {slot = slot} v inside has some size opens trailed =
     record {
       within = subset-clearBit masks slot v inside;
       alive = alive-store masks slot (clearBit (getD masks slot 0) v) inside some;
+      opens = opens;
       cells-size = size;
       height = omega (arith, total-clearBit masks slot v inside, has);
       trailed = trailed;

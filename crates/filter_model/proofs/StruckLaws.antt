@@ -6,20 +6,23 @@ use mathlib.Core.Bool.{Bool, true, false}
 use mathlib.Core.Logic.{dite}
 use mathlib.Core.List.{List}
 use Prim.Native.Nat.{ℕ, _+_, _*_, _≤_, _<_, zero-le}
+use native.Mathlib.Nat.{le-of-eq}
 use native.Mathlib.Decide.{ℕ-discrete}
 use native.Mathlib.Omega.{arith}
 use lib.ListN.{length, getD, set}
 use Rattle.domains.specs.Mask.{Fixed, clearBit}
 use Rattle.domains.specs.Masks.{HasAt}
-use Rattle.domains.proofs.MaskLaws.{testBit-clearBit-same, testBit-clearBit-other}
+use Rattle.domains.proofs.MaskLaws.{testBit-clearBit-same, testBit-clearBit-other, fixed-single}
 use Rattle.domains.proofs.CountsLaws.{only-fixed, only-free}
 use Rattle.closing_model.specs.Table.{Table}
 use Rattle.segments_model.specs.Lines.{gain, loss, Change, rowCorners, rowSlack}
 use Rattle.segments_model.specs.Part.{Lent}
 use Rattle.segments_model.proofs.EndLaws.{row-lasts}
 use Rattle.filter_model.specs.Mirror.{boundLine, row, cellsOf, Mirror, Passed}
+use Rattle.filter_model.specs.Open.{cellsSize, closeSlot, OpenSlots}
 use Rattle.filter_model.specs.Strike.{Reach, Dropped, Due, Struck}
-use Rattle.filter_model.proofs.RowLaws.{row-first, Row, row-weaken, row-stays, row-falls, reach-met, lent-row}
+use Rattle.filter_model.proofs.OpenLaws.{open-lent, closeSlot-row, open-strike, open-single}
+use Rattle.filter_model.proofs.RowLaws.{row-first, Row, row-weaken, row-cells, row-stays, row-falls, reach-met, lent-row}
 use Rattle.filter_model.proofs.SpentLaws.{bound-cut, spent-passed}
 use Rattle.filter_model.proofs.StoreLaws.{was-free, fixed-unique, strike-within}
 
@@ -34,14 +37,14 @@ module _ {n k : ℕ} {T : Table} {M cells : List ℕ} (mirror : Mirror n k T M c
 
   -- ---- from the rows to the whole; where a reach is above 0 its bound is met
   module _ (cells′ : List ℕ) (x₁ a w x₂ b : ℕ) (w<k : w < k) (a≤n : a ≤ n) (b≤n : b ≤ n)
-      (rows : (kind : Bool) (q : ℕ) → q < k → Row kind n k T M after cells′ q (Due kind v a w b q))
+      (rows : (kind : Bool) (q : ℕ) → q < k → Row kind n k T M after cells′ q (Due kind v a w b q)) (opens : OpenSlots n k after cells′)
       (low-from : 0 < a → (s : ℕ) → s < x₁ → Passed true n T M v s) (high-from : 0 < b → (s : ℕ) → s < x₂ → Passed false n T M w s)
       (low : 0 < a → gain true (boundLine true n T v) after v a ≡ loss true (boundLine true n T v) after v a)
       (high : 0 < b → gain false (boundLine false n T w) after w b ≡ loss false (boundLine false n T w) after w b) where
     struck-rows : Struck n k T M after cells′ slot v x₁ a w x₂ b
     struck-rows =
         record {
-          mirror = record { rows = λ kind x x<k. rows kind x x<k .segments };
+          mirror = record { rows = λ kind x x<k. rows kind x x<k .segments; opens = opens };
           spent = λ kind q t q<k. rows kind q q<k .spent t;
           low-from = low-from;
           high-from = high-from;
@@ -55,7 +58,7 @@ module _ {n k : ℕ} {T : Table} {M cells : List ℕ} (mirror : Mirror n k T M c
         }
 
   -- ---- the lower row of v
-  module _ (cells₁ : List ℕ) (a : ℕ) {g₁ x₁ : ℕ} (fits : (k + k) * (n + 2) ≤ length cells) (some : left ≡ 0 → ⊥)
+  module _ (cells₁ : List ℕ) (a : ℕ) {g₁ x₁ : ℕ} (fits : cellsSize n k ≤ length cells) (some : left ≡ 0 → ⊥)
       (lent₁ : Lent (v * (n + 2)) (n + 2) (λ l l′. Dropped n slot l l′ a g₁ x₁) cells cells₁) (free₁ : getD (cellsOf true n k v cells) 0 0 ≤ slot) where
     low-change : Change true (getD M slot 0) left v 1
     low-change = omega (arith, has, testBit-clearBit-same (getD M slot 0) v)
@@ -75,8 +78,8 @@ module _ {n k : ℕ} {T : Table} {M cells : List ℕ} (mirror : Mirror n k T M c
     low-starts 0<a = spent-passed mirror true v v<k x₁ (lent₁ .does .from 0<a ∙ row-first n v cells)
 
     same₁ : (kind : Bool) (x : ℕ) → x < k → (row kind k x ≡ v → ⊥) → cellsOf kind n k x cells₁ ≡ cellsOf kind n k x cells
-    same₁ true x x<k other = lent-row n (k + k) v x lent₁ fits (omega arith) other
-    same₁ false x x<k other = lent-row n (k + k) v (k + x) lent₁ fits (omega arith) other
+    same₁ true x x<k other = lent-row n (k + k) v x lent₁ (omega arith) (omega arith) other
+    same₁ false x x<k other = lent-row n (k + k) v (k + x) lent₁ (omega arith) (omega arith) other
 
     -- no value is alone
     module _ (many : (x : ℕ) → Fixed left x → ⊥) where
@@ -90,7 +93,8 @@ module _ {n k : ℕ} {T : Table} {M cells : List ℕ} (mirror : Mirror n k T M c
 
       pub struck-plain : Struck n k T M after cells₁ slot v x₁ a 0 0 0
       struck-plain =
-          struck-rows cells₁ x₁ a 0 0 0 (omega arith) (lent₁ .does .inside) zero-le plain-rows low-starts (λ 0<0. absurd (omega arith))
+          struck-rows cells₁ x₁ a 0 0 0 (omega arith) (lent₁ .does .inside) zero-le plain-rows
+          (open-strike slot v inside (open-lent n k v lent₁ (omega arith)) (mirror .opens)) low-starts (λ 0<0. absurd (omega arith))
           (reach-met mirror cells₁ slot left inside true v v<k slot<n a (lent₁ .does .inside) low-change low-reach) (λ 0<0. absurd (omega arith))
 
     -- ---- the upper row of w, the only value that is left
@@ -133,8 +137,16 @@ module _ {n k : ℕ} {T : Table} {M cells : List ℕ} (mirror : Mirror n k T M c
           row-stays mirror cells₂ slot left inside false x x<k (Due false v a w b x) (high-other x (λ fixed. other (fixed-unique left x w fixed single)))
           (same₂ false x x<k (λ e. other (omega arith)) ∙ same₁ false x x<k (λ e. absurd (omega arith))))
 
-      pub struck-single : Struck n k T M after cells₂ slot v x₁ a w x₂ b
-      struck-single =
-          struck-rows cells₂ x₁ a w x₂ b w<k (lent₁ .does .inside) (lent₂ .does .inside) single-rows low-starts high-starts
-          (reach-met mirror cells₂ slot left inside true v v<k slot<n a (lent₁ .does .inside) low-change low-reach₂)
-          (reach-met mirror cells₂ slot left inside false w w<k slot<n b (lent₂ .does .inside) high-change high-reach)
+      -- the slot is taken out of the set of open ones
+      module _ (slot-fits : slot < 256) where
+        closed-row : (kind : Bool) (x : ℕ) → x < k → cellsOf kind n k x (closeSlot n k slot cells₂) ≡ cellsOf kind n k x cells₂
+        closed-row kind x x<k = closeSlot-row n k slot cells₂ kind x x<k (omega (arith, lent₁ .size, lent₂ .size))
+
+        pub struck-single : Struck n k T M after (closeSlot n k slot cells₂) slot v x₁ a w x₂ b
+        struck-single =
+            struck-rows (closeSlot n k slot cells₂) x₁ a w x₂ b w<k (lent₁ .does .inside) (lent₂ .does .inside)
+            (λ kind x x<k. row-cells (closed-row kind x x<k) (single-rows kind x x<k))
+            (open-single slot v v (k + w) inside slot-fits fits lent₁ (omega arith) lent₂ (omega arith) (le-of-eq (fixed-single left w single))
+            (mirror .opens))
+            low-starts high-starts (reach-met mirror cells₂ slot left inside true v v<k slot<n a (lent₁ .does .inside) low-change low-reach₂)
+            (reach-met mirror cells₂ slot left inside false w w<k slot<n b (lent₂ .does .inside) high-change high-reach)

@@ -1,5 +1,6 @@
 pub mod Cuts
 pub mod Mirror
+pub mod Open
 pub mod Rises
 pub mod State
 pub mod Strike

@@ -3,7 +3,7 @@
 --   Corner kind n T v t      that line turns at t (document 01: a lower or an upper corner)
 --   slackAt kind n T M v t   its slack on the masks M: P - lower, or upper - B
 --   row, cellsOf             the number of the row of a kind and value, the lower bounds' rows first; the cells of that row
---   Mirror n k T M cells     each row holds the segments of T's bound on M, and no corner is broken
+--   Mirror n k T M cells     each row holds the segments of T's bound on M, no corner is broken, and the set of open slots has those of M
 --   Quiet kind n T M v       before each corner without slack all is settled
 --   SettledAt M s v          slot s has v only where it is fixed to it
 --   SettledFrom M v from t   so is each slot from `from` on and before t
@@ -21,6 +21,7 @@ use Rattle.closing_model.specs.Corners.{line}
 use Rattle.settling_model.specs.Settled.{Settled}
 use Rattle.segments_model.specs.Lines.{cornerOf, slackOf, Segments}
 use Rattle.segments_model.specs.Part.{part}
+use Rattle.filter_model.specs.Open.{OpenSlots}
 
 abbrev pub boundLine : Bool → ℕ → Table → ℕ → ℕ → ℕ
 boundLine true n T v = line (T .lower) n v
@@ -43,6 +44,7 @@ cellsOf kind n k v cells = part (row kind k v * (n + 2)) (n + 2) cells
 
 pub record Mirror (n k : ℕ) (T : Table) (M cells : List ℕ) : Type 0 where
   pub rows : (kind : Bool) (v : ℕ) → v < k → Segments kind n (boundLine kind n T v) M v (cellsOf kind n k v cells)
+  pub opens : OpenSlots n k M cells
 
 pub record Quiet (kind : Bool) (n : ℕ) (T : Table) (M : List ℕ) (v : ℕ) : Type 0 where
   pub each : (t : ℕ) → Corner kind n T v t → slackAt kind n T M v t ≡ 0 → Settled M v t

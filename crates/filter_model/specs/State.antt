@@ -1,7 +1,8 @@
 -- The filter's state: masks, cells, and the trail up to a height; n slots and k values.
---   World, Ready, Pruning   what a call needs: sizes, room on the trail, no value from k on, no empty mask; a slot and a value; a value and an end
---   Moved                   from one state to a later one: values only go, each that goes is one strike on the trail, no mask gets empty, and the
---                           trail leads back to the masks and the cells
+--   World, Ready, Pruning   what a call needs: sizes, room on the trail, no value from k on, no empty mask; the open slots, and a slot and a value,
+--                           or a value and an end
+--   Moved                   from one state to a later one: values only go, each that goes is one strike on the trail, no mask gets empty, the set
+--                           keeps the open slots, and the trail leads back to the masks and the cells
 --   Contradicted            a strike that changed nothing, since no stable list lacks the value there
 --   Removed                 a strike that was made: the notes x and reaches a of the value v, and y and b of the only value w that is left
 -- Assumes nothing.
@@ -15,12 +16,13 @@ use Rattle.settling_model.specs.Settled.{LacksAt}
 use Rattle.settling_model.specs.Stable.{Stable, tableBounds}
 use Rattle.filter_model.specs.Cuts.{StrikeCut}
 use Rattle.filter_model.specs.Mirror.{Mirror}
+use Rattle.filter_model.specs.Open.{cellsSize, OpenSlots}
 use Rattle.filter_model.specs.Strike.{Struck}
 use Rattle.filter_model.specs.Trail.{Trailed}
 
 pub record World (masks cells trail : List ℕ) (n k top : ℕ) : Type 0 where
   pub slots : n ≤ length masks
-  pub rows : (k + k) * (n + 2) ≤ length cells
+  pub rows : cellsSize n k ≤ length cells
   -- every value that is left has room on the trail
   pub room : 2 * n + 3 * (top + total masks) ≤ length trail
   -- a slot and a note fit a byte of the trail, and a value the mask
@@ -31,17 +33,20 @@ pub record World (masks cells trail : List ℕ) (n k top : ℕ) : Type 0 where
 
 pub record Ready (masks cells trail : List ℕ) (n k top slot v : ℕ) : Type 0 where
   pub world : World masks cells trail n k top
+  pub opens : OpenSlots n k masks cells
   pub slot-in : slot < n
   pub value-in : v < k
 
 pub record Pruning (masks cells trail : List ℕ) (n k top v end : ℕ) : Type 0 where
   pub world : World masks cells trail n k top
+  pub opens : OpenSlots n k masks cells
   pub end-in : end ≤ n
   pub value-in : v < k
 
 pub record Moved (n k : ℕ) (masks cells trail : List ℕ) (top : ℕ) (masks′ cells′ trail′ : List ℕ) (h : ℕ) : Type 0 where
   pub within : Subset masks′ masks
   pub alive : Alive masks → Alive masks′
+  pub opens : OpenSlots n k masks cells → OpenSlots n k masks′ cells′
   pub cells-size : length cells′ ≡ length cells
   pub height : h + total masks′ ≡ top + total masks
   pub trailed : Trailed n k masks cells trail top masks′ cells′ trail′ h

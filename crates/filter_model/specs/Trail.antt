@@ -7,7 +7,8 @@
 --   noted n trail slot g x     the trail with the slot's own tag g and note x
 --   putIn M slot v             M with v put into the slot
 --   RowRaised n row slot g x ..  the row's fall after the slot is taken back by the tag g and the note x
---   UpperRaised n k trail ..   where the slot is fixed in M′, the fall of that value's upper row is taken back
+--   UpperRaised n k trail ..   where the slot is fixed in M′, it is put into the set of open slots, and the fall of its value's upper row is taken
+--                              back
 --   TakenBack n k trail ..     a strike of v at the slot, with the tag g and the note x, is taken back, from M′ and cells′ to M and cells: such an
 --                              upper fall, then the fall of v's lower row, and v is put in
 --   StrikeBack n k trail i     the strike i is taken back
@@ -26,6 +27,7 @@ use Rattle.domains.specs.Masks.{FixedAt}
 use Rattle.settling_model.specs.Settled.{LacksAt}
 use Rattle.segments_model.specs.Part.{part, over}
 use Rattle.segments_model.specs.Raise.{risen, Raisable}
+use Rattle.filter_model.specs.Open.{openBit, openSlot}
 
 abbrev pub slotAt : ℕ → List ℕ → ℕ → ℕ
 slotAt n trail i = getD trail (2 * n + 3 * i) 0
@@ -53,7 +55,8 @@ pub record RowRaised (n row slot g x : ℕ) (cells′ cells : List ℕ) : Type 0
   pub is : cells ≡ over (row * (n + 2)) (n + 2) (risen (n + 1) slot g x) cells′
 
 pub record UpperRaised (n k : ℕ) (trail M′ : List ℕ) (slot : ℕ) (cells′ cells : List ℕ) : Type 0 where
-  pub fixed : (w : ℕ) → FixedAt M′ slot w → (w < k) × RowRaised n (k + w) slot (getD trail (n + slot) 0) (getD trail slot 0) cells′ cells
+  pub fixed : (w : ℕ) → FixedAt M′ slot w → (w < k) × (openBit n k cells′ slot ≡ 0)
+      × RowRaised n (k + w) slot (getD trail (n + slot) 0) (getD trail slot 0) (openSlot n k slot cells′) cells
   pub free : ((w : ℕ) → FixedAt M′ slot w → ⊥) → cells ≡ cells′
 
 pub record TakenBack (n k : ℕ) (trail : List ℕ) (slot v g x : ℕ) (M′ cells′ M cells : List ℕ) : Type 0 where

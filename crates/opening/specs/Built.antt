@@ -1,16 +1,22 @@
 -- Building the cells from a table's rises.
 --   Building             what it needs: sizes
 --   RowsAnswer, RowsBuilt   the rows of one kind, up to value v: they hold the segments of every line with the rises; or one is broken
+--   Marking, WordOf      what the set of open slots needs: sizes; x tells which of the slots from `base` on have two values or more: those before
+--                        base + i, and before n
+--   Marked               the words before b are written, and no other cell
 --   BuildMeaning, AllBuilt  the rows of both kinds: the cells mirror each table with the rises; or one of its corners is broken
 -- Assumes nothing.
 use mathlib.Core.Path.{_≡_}
 use mathlib.Core.Bool.{Bool, true, false, not}
 use mathlib.Core.List.{List}
-use Prim.Native.Nat.{ℕ, _+_, _*_, _≤_, _<_}
-use lib.ListN.{length}
+use Prim.Native.Nat.{ℕ, _+_, _*_, _^_, _≤_, _<_}
+use lib.Count.{ones}
+use lib.ListN.{length, getD}
+use Rattle.domains.specs.Mask.{Has}
 use Rattle.closing_model.specs.Table.{Table}
 use Rattle.segments_model.specs.Lines.{Rising, BrokenAt, Segments}
 use Rattle.filter_model.specs.Mirror.{boundLine, cellsOf, Mirror}
+use Rattle.filter_model.specs.Open.{wordsAt, cellsSize, openBit}
 use Rattle.filter_model.specs.Rises.{TableRises}
 
 pub record Building (cells rises masks : List ℕ) (n k : ℕ) : Type 0 where
@@ -18,7 +24,7 @@ pub record Building (cells rises masks : List ℕ) (n k : ℕ) : Type 0 where
   pub values-fit : k ≤ 32
   pub rises-in : n < length rises
   pub slots : n ≤ length masks
-  pub rows : (k + k) * (n + 2) ≤ length cells
+  pub rows : cellsSize n k ≤ length cells
 
 abbrev pub RowsAnswer : Bool → ℕ → ℕ → List ℕ → List ℕ → List ℕ → ℕ → Bool → Type 0
 RowsAnswer kind n k rises masks cells′ v true =
@@ -29,6 +35,22 @@ pub record RowsBuilt (kind : Bool) (n k : ℕ) (rises masks cells cells′ : Lis
   pub size : length cells′ ≡ length cells
   pub others : (x : ℕ) → x < k → cellsOf (not kind) n k x cells′ ≡ cellsOf (not kind) n k x cells
   pub answer : RowsAnswer kind n k rises masks cells′ v r
+
+pub record Marking (cells masks : List ℕ) (n k : ℕ) : Type 0 where
+  pub slots-fit : n ≤ 256
+  pub values-fit : k ≤ 32
+  pub slots : n ≤ length masks
+  pub rows : cellsSize n k ≤ length cells
+
+pub record WordOf (masks : List ℕ) (n base i x : ℕ) : Type 0 where
+  pub below : x < 2 ^ i
+  pub each : (j : ℕ) → j < i → base + j < n → 1 < ones (getD masks (base + j) 0) → Has x j
+
+pub record Marked (n k : ℕ) (masks cells cells′ : List ℕ) (b : ℕ) : Type 0 where
+  pub size : length cells′ ≡ length cells
+  pub before : (i : ℕ) → i < wordsAt n k → getD cells′ i 0 ≡ getD cells i 0
+  pub after : (i : ℕ) → wordsAt n k + b ≤ i → getD cells′ i 0 ≡ getD cells i 0
+  pub opens : (s : ℕ) → s < 16 * b → s < n → 1 < ones (getD masks s 0) → openBit n k cells′ s ≡ 1
 
 abbrev pub BuildMeaning : ℕ → ℕ → Table → List ℕ → List ℕ → Bool → Type 0
 BuildMeaning n k T masks cells′ true = Mirror n k T masks cells′

@@ -3,11 +3,11 @@
 // definitions of filter and filter_model.
 ghost use mathlib.Core.Path.{_≡_};
 ghost use mathlib.Core.Bool.{true, false};
-ghost use Prim.Native.Nat.{_<_};
+ghost use Prim.Native.Nat.{_<_, _≤_};
 ghost use lib.ListN.{length};
 ghost use Rattle.filter_model.specs.Mirror.{row};
 ghost use Rattle.filter.specs.Filtered.{Filtered};
-ghost use Rattle.opening.specs.Built.{Building, RowsBuilt, AllBuilt};
+ghost use Rattle.opening.specs.Built.{Building, RowsBuilt, Marking, WordOf, Marked, AllBuilt};
 ghost use Rattle.opening.specs.Opened.{Anything, Opening, QuietValue, QuietBelow, Rooms, OpenAnswer};
 
 // Opens: builds all cells from the rises of the lower and of the upper bounds, and settles all rows.
@@ -30,7 +30,7 @@ pub fn open(
     prune_all(masks, cells, trail, n, k, 0)
 }
 
-// Builds the rows of both kinds. False where a corner is broken.
+// Builds the rows of both kinds and the set of open slots. False where a corner is broken.
 pub fn build_all(
     cells: &mut [u16],
     lowers: &[u32],
@@ -45,7 +45,11 @@ pub fn build_all(
     if !build_rows(cells, lowers, masks, n, k, true, 0) {
         return false;
     }
-    build_rows(cells, uppers, masks, n, k, false, k)
+    if !build_rows(cells, uppers, masks, n, k, false, k) {
+        return false;
+    }
+    mark_open(cells, masks, n, k);
+    true
 }
 
 // Builds the rows of one kind, the first of which is `first`. False where a corner is broken.
@@ -75,6 +79,35 @@ fn build_rows(
         }
     }
     true
+}
+
+// Writes the set of open slots.
+fn mark_open(cells: &mut [u16], masks: &[u32], n: usize, k: u32)
+    requires { ⌜ Marking (now cells) (now masks) n k ⌝ }
+    ensures { λ _. ⌜ Marked n k (now (masks .entry)) (now (cells .entry)) (now (cells .exit)) 16 ⌝ }
+{
+    for b in 0..16 {
+        let x = open_word(masks, n, 16 * b);
+        cells[(k + k) as usize * (n + 2) + b] = x as u16;
+    }
+}
+
+// The word of 16 slots from `base` on: bit i tells whether slot base + i is before n and has two values or more.
+fn open_word(masks: &[u32], n: usize, base: usize) -> u32
+    requires { ⌜ (n ≤ length (now masks)) × (base ≤ 256) ⌝ }
+    ensures { λ r. ⌜ WordOf (now (masks .entry)) n base 16 r ⌝ }
+{
+    let mut x: u32 = 0;
+    for i in 0..16 {
+        if n <= base + i {
+            continue;
+        }
+        if domains::count(masks[base + i]) < 2 {
+            continue;
+        }
+        x = domains::with(x, i as u32);
+    }
+    x
 }
 
 // Settles all rows.

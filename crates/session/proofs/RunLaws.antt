@@ -16,7 +16,7 @@ use Rattle.running_model.specs.declared.Ended.{Ended}
 use Rattle.session_fault.specs.Entry.{mostMarks, openedWord, SessionReady, Exactly}
 
 -- ---- SessionReady
-pub ready-runnable : {b calls A M : List ℕ} (cells trail L U : List ℕ) → SessionReady b calls A M → 16512 ≤ length cells → 25088 ≤ length trail
+pub ready-runnable : {b calls A M : List ℕ} (cells trail L U : List ℕ) → SessionReady b calls A M → 16528 ≤ length cells → 25088 ≤ length trail
     → 257 ≤ length L → 257 ≤ length U → length trail < 65536 → BookRunnable b calls A M cells trail L U
 ready-runnable cells trail L U session cells-in trail-in lowers-in uppers-in fits =
     record {

@@ -37,7 +37,7 @@ pub fn run_exactly(book: &[u8], calls: &[u8], answers: &mut [u32], masks: &mut [
     requires { ⌜ SessionReady (now book) (now calls) (now answers) (now masks) ⌝ }
     ensures { λ r. ⌜ Exactly (now (book .entry)) (now (calls .entry)) r (now (answers .entry)) (now (answers .exit)) (now (masks .exit)) ⌝ }
 {
-    let mut cells = [0u16; 16512];
+    let mut cells = [0u16; 16528];
     let mut trail = [0u8; 25088];
     let mut heights = [0u16; 256];
     let mut lowers = [0u32; 257];

@@ -47,7 +47,7 @@ fn settles(book: &[u8], masks: &mut [u32]) -> bool
     requires { ⌜ Ready (now book) (now masks) ⌝ }
     ensures { λ r. ⌜ settledBook (now (book .entry)) ≡ settledBy r (now (masks .exit)) ⌝ }
 {
-    let mut cells = [0u16; 16512];
+    let mut cells = [0u16; 16528];
     let mut trail = [0u8; 25088];
     let mut lower_rises = [0u32; 257];
     let mut upper_rises = [0u32; 257];

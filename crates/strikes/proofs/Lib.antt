@@ -1,4 +1,5 @@
 pub mod AnswerLaws
+mod BlockLaws
 mod FallLaws
 pub mod OthersLaws
 pub mod ThinLaws

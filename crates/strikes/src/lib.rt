@@ -3,13 +3,14 @@
 // filter_model.
 ghost use mathlib.Core.Path.{_≡_};
 ghost use mathlib.Core.Bool.{true, false, cond};
-ghost use Prim.Native.Nat.{_+_, _*_, _<_, _≤_};
+ghost use Prim.Native.Nat.{ℕ, _+_, _*_, _<_, _≤_};
 ghost use lib.Dec.{eqb, ltb};
 ghost use lib.Count.{ones};
 ghost use lib.ListN.{length, getD, set};
-ghost use Rattle.domains.specs.Mask.{testBit, clearBit};
+ghost use Rattle.domains.specs.Mask.{testBit, Has, clearBit};
 ghost use Rattle.domains.specs.Masks.{HasAt};
 ghost use Rattle.segments_model.specs.Part.{Lent};
+ghost use Rattle.filter_model.specs.Open.{wordsAt, wordAt, openBit, closeSlot, BlockAsked, OpenBlock};
 ghost use Rattle.filter_model.specs.State.{Ready};
 ghost use Rattle.filter_model.specs.Strike.{Dropped};
 ghost use Rattle.filter_model.specs.Trail.{written, noted};
@@ -67,6 +68,7 @@ pub fn strike_one(
     let low = fall_row(cells, v, n, slot);
     push(trail, n, top, slot, v, low.tag + 4, low.note);
     let high = fall_row(cells, k + w, n, slot);
+    close_slot(cells, n, k, slot);
     note_fixed(trail, n, slot, high.tag, high.note);
     Removal::Made(low.note, low.reach, high.note, high.reach, w)
 }
@@ -154,6 +156,50 @@ pub fn other_values(masks: &[u32], slot: usize, v: u32) -> u32
     domains::less(m, v)
 }
 
+// The open slots of block b from `start` on and before `end`, as a mask: bit i is slot 16 * b + i.
+pub fn open_block(cells: &[u16], n: usize, k: u32, b: usize, start: usize, end: usize) -> u32
+    requires { ⌜ BlockAsked (now cells) n k b start end ⌝ }
+    ensures { λ r. ⌜ OpenBlock n k (now (cells .entry)) b start end r ⌝ }
+{
+    if end <= 16 * b {
+        return 0;
+    }
+    let x = word(cells, n, k, b);
+    bits_before(bits_from(x, 16 * b, start), 16 * b, end)
+}
+
+// A word of the set of open slots.
+fn word(cells: &[u16], n: usize, k: u32, b: usize) -> u32
+    requires { ⌜ (wordsAt n k + b < length (now cells)) × (n ≤ 256) × (k ≤ 32) ⌝ }
+    ensures { λ r. ⌜ (r ≡ getD (now (cells .entry)) (wordsAt n k + b) 0) × (r < 65536) ⌝ }
+{
+    bits_of(cells[(k + k) as usize * (n + 2) + b])
+}
+
+// The bits of a word from `start` on, where bit 0 stands for `base`.
+fn bits_from(x: u32, base: usize, start: usize) -> u32
+    requires { ⌜ start < base + 16 ⌝ }
+    ensures { λ r. ⌜ (r ≤ x) × ((i : ℕ) → start ≤ base + i → testBit r i ≡ testBit x i) ⌝ }
+{
+    if start <= base {
+        return x;
+    }
+    let d = (start - base) as u32;
+    x - x % domains::only(d)
+}
+
+// The bits of a word before `end`, where bit 0 stands for `base`.
+fn bits_before(x: u32, base: usize, end: usize) -> u32
+    requires { ⌜ (x < 65536) × (base ≤ end) × (end ≤ 256) ⌝ }
+    ensures { λ r. ⌜ (r < 65536) × ((i : ℕ) → Has r i → base + i < end) × ((i : ℕ) → base + i < end → testBit r i ≡ testBit x i) ⌝ }
+{
+    if base + 16 <= end {
+        return x;
+    }
+    let e = (end - base) as u32;
+    x % domains::only(e)
+}
+
 // Lowers the slack of a row by one after the slot; where the slot is before the spent corner that is a clash, and the cells stay.
 fn fall_row(cells: &mut [u16], row: u32, n: usize, slot: usize) -> Descent
     requires { ⌜ (slot ≤ n) × (row * (n + 2) + n + 1 < length (now cells)) × (n ≤ 256) ⌝ }
@@ -209,6 +255,15 @@ fn store(masks: &mut [u32], slot: usize, m: u32)
     masks[slot] = m;
 }
 
+// Takes the slot, which is in it, out of the set of open slots.
+fn close_slot(cells: &mut [u16], n: usize, k: u32, slot: usize)
+    requires { ⌜ (wordAt n k slot < length (now cells)) × (n ≤ 256) × (k ≤ 32) × (openBit n k (now cells) slot ≡ 1) ⌝ }
+    ensures { λ _. ⌜ now (cells .exit) ≡ closeSlot n k slot (now (cells .entry)) ⌝ }
+{
+    let at = (k + k) as usize * (n + 2) + slot / 16;
+    cells[at] = domains::less(bits_of(cells[at]), (slot % 16) as u32) as u16;
+}
+
 // Writes the struck value on the trail, with the strike's tag and the note of its lower row's fall.
 fn push(trail: &mut [u8], n: usize, top: usize, slot: usize, v: u32, tag: usize, note: usize)
     requires { ⌜ (2 * n + 3 * top + 2 < length (now trail)) × (slot < 256) × (v < 32) × (tag ≤ 7) × (note < 256) ⌝ }
@@ -234,4 +289,10 @@ fn wide(x: u16) -> usize
     ensures { λ r. ⌜ r ≡ x ⌝ }
 {
     x as usize
+}
+
+fn bits_of(x: u16) -> u32
+    ensures { λ r. ⌜ (r ≡ x) × (r < 65536) ⌝ }
+{
+    x as u32
 }

@@ -3,7 +3,7 @@
 -- (`moved-undoable`), and that gives the masks and the cells at its entry (`moved-undone`). No contract cites this file. Assumes nothing.
 use mathlib.Core.Path.{_≡_, refl, sym, ap, _∙_}
 use mathlib.Core.List.{List}
-use Prim.Native.Nat.{ℕ, suc, _+_, _-_, _*_, _/_, _%_, _≤_, _<_}
+use Prim.Native.Nat.{ℕ, suc, _+_, _-_, _*_, _/_, _%_, _^_, _≤_, _<_}
 use native.Mathlib.Nat.{le-refl}
 use native.Mathlib.Omega.{arith}
 use lib.Count.{ones}
@@ -16,8 +16,10 @@ use Rattle.segments_model.specs.Part.{part, over}
 use Rattle.segments_model.specs.Raise.{endOf, lifted, risen}
 use Rattle.segments_model.proofs.PartLaws.{over-lent}
 use Rattle.segments_model.proofs.RaiseLaws.{risen-lowered}
+use Rattle.filter_model.specs.Open.{wordAt, openBit, openSlot}
 use Rattle.filter_model.specs.State.{World, Moved}
 use Rattle.filter_model.specs.Trail.{slotAt, valueAt, tagAt, noteAt, putIn, RowRaised, UpperRaised, TakenBack, Restores}
+use Rattle.filter_model.proofs.OpenLaws.{word-inside}
 use Rattle.filter_model.proofs.RowLaws.{row-inside}
 use Rattle.filter_model.proofs.StateLaws.{world-moved}
 use Rattle.filter_model.proofs.StoreLaws.{many-free}
@@ -67,18 +69,31 @@ module _ {masks cells trail : List ℕ} {n k slot m : ℕ} (m-is : m ≡ getD ma
     pub upper-value : UpperUndoing masks cells trail n k slot → w < k
     upper-value undoing = undoing .raised .fixed w (sym m-is ∙ single) .0
 
-    pub upper-row : (g x : ℕ) → g ≡ getD trail (n + slot) 0 → x ≡ getD trail slot 0 → UpperUndoing masks cells trail n k slot
-        → RowUndoing cells (k + w) n slot g x
-    upper-row g x g-is x-is undoing =
-        let raised = undoing .raised .fixed w (sym m-is ∙ single) in
-        rw (g-is, x-is) (row-undoing (k + w) (undoing .sizes) (undoing .slot-in) (omega (arith, raised .0)) refl (raised .1))
+    -- the slot's bit in its word
+    pub upper-bit : UpperUndoing masks cells trail n k slot → (wordAt n k slot < length cells) × (n ≤ 256) × (k ≤ 32) × (openBit n k cells slot ≡ 0)
+    upper-bit undoing =
+        let sizes = undoing .sizes in (
+          word-inside n k slot cells (omega (arith, undoing .slot-in, sizes .slots-fit)) (sizes .rows),
+          sizes .slots-fit,
+          sizes .values-fit,
+          undoing .raised .fixed w (sym m-is ∙ single) .1,
+        )
 
-    pub upper-undone : {g x : ℕ} {cells′ : List ℕ} → g ≡ getD trail (n + slot) 0 → x ≡ getD trail slot 0
-        → cells′ ≡ over ((k + w) * (n + 2)) (n + 2) (risen (n + 1) slot g x) cells → UpperUndone masks cells trail n k slot cells′
-    upper-undone g-is x-is cells-are =
-        record {
-          restored = λ before raised. cells-are ∙ rw (g-is, x-is) (sym (raised .fixed w (sym m-is ∙ single) .1 .is));
-        }
+    module _ {cells₁ : List ℕ} (opens : cells₁ ≡ openSlot n k slot cells) where
+      pub upper-row : (g x : ℕ) → g ≡ getD trail (n + slot) 0 → x ≡ getD trail slot 0 → UpperUndoing masks cells trail n k slot
+          → RowUndoing cells₁ (k + w) n slot g x
+      upper-row g x g-is x-is undoing =
+          let raised = undoing .raised .fixed w (sym m-is ∙ single) in
+          rw (opens, g-is, x-is)
+          (row-undoing (k + w) (undoing .sizes) (undoing .slot-in) (omega (arith, raised .0))
+          (length-set cells (wordAt n k slot) (getD cells (wordAt n k slot) 0 + 2 ^ (slot % 16))) (raised .2))
+
+      pub upper-undone : {g x : ℕ} {cells′ : List ℕ} → g ≡ getD trail (n + slot) 0 → x ≡ getD trail slot 0
+          → cells′ ≡ over ((k + w) * (n + 2)) (n + 2) (risen (n + 1) slot g x) cells₁ → UpperUndone masks cells trail n k slot cells′
+      upper-undone g-is x-is cells-are =
+          record {
+            restored = λ before raised. cells-are ∙ rw (opens, g-is, x-is) (sym (raised .fixed w (sym m-is ∙ single) .2 .is));
+          }
 
 -- ---- a second byte below 64
 module _ {both b : ℕ} (both-is : both ≡ b) (short : both < 64) where

@@ -1,6 +1,6 @@
 -- Taking calls back: the strikes that the trail has from a height on are taken back, the latest first, in the masks and in the cells. `Restores`
 -- of filter_model says what the trail restores.
---   Sizes masks cells n k    n slots and k values, and room for the cells of both kinds
+--   Sizes masks cells n k    n slots and k values, and room for the cells of both kinds and the set of open slots
 --   RowUndoing, UpperUndoing   what a row's fall needs to be taken back, and that of a fixed slot's upper row
 --   UpperUndone              the cells at exit are those before the upper fall
 --   StrikeUndoing            the strike i may be taken back from these masks and cells
@@ -15,11 +15,12 @@ use lib.Count.{ones}
 use lib.ListN.{length, getD}
 use Rattle.segments_model.specs.Part.{part}
 use Rattle.segments_model.specs.Raise.{Raisable}
+use Rattle.filter_model.specs.Open.{cellsSize}
 use Rattle.filter_model.specs.Trail.{UpperRaised, StrikeBack, Restores}
 
 pub record Sizes (masks cells : List ℕ) (n k : ℕ) : Type 0 where
   pub slots : n ≤ length masks
-  pub rows : (k + k) * (n + 2) ≤ length cells
+  pub rows : cellsSize n k ≤ length cells
   pub slots-fit : n ≤ 256
   pub values-fit : k ≤ 32
 

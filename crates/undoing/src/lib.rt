@@ -1,11 +1,12 @@
 // Undo: takes calls of the filter back. Each strike that the trail has from a height on is taken back, the latest first: its falls by their
-// tags and notes, and its value into the masks. Nothing is refused here. The contracts cite `specs/Undone.antt` and filter_model's `specs/Trail.antt`.
+// tags and notes, its value into the masks, and a slot that it left one value into the set of open slots. Nothing is refused here. The contracts cite `specs/Undone.antt` and filter_model's `specs/Trail.antt`.
 ghost use mathlib.Core.Path.{_≡_};
-ghost use Prim.Native.Nat.{_+_, _*_, _<_};
+ghost use Prim.Native.Nat.{_+_, _*_, _<_, _≤_};
 ghost use lib.ListN.{length, getD};
 ghost use Rattle.settling_model.specs.Settled.{LacksAt};
 ghost use Rattle.segments_model.specs.Part.{over};
 ghost use Rattle.segments_model.specs.Raise.{lifted, risen};
+ghost use Rattle.filter_model.specs.Open.{wordAt, openBit, openSlot};
 ghost use Rattle.filter_model.specs.Trail.{putIn};
 ghost use Rattle.undoing.specs.Undone.{RowUndoing, UpperUndoing, UpperUndone, StrikeUndoing, StrikeUndone, Undoable, Undone};
 
@@ -59,12 +60,13 @@ fn lift_cell(cells: &mut [u16], at: usize)
     cells[at] = cells[at] + 1;
 }
 
-// The slot being fixed, takes the fall of its value's upper row back.
+// The slot being fixed, puts it back into the set of open slots, and takes the fall of its value's upper row back.
 fn raise_fixed(masks: &[u32], cells: &mut [u16], trail: &[u8], n: usize, k: u32, slot: usize)
     requires { ⌜ UpperUndoing (now masks) (now cells) (now trail) n k slot ⌝ }
     ensures { λ _. ⌜ UpperUndone (now (masks .entry)) (now (cells .entry)) (now (trail .entry)) n k slot (now (cells .exit)) ⌝ }
 {
     let w = domains::single_value(masks[slot]);
+    open_slot(cells, n, k, slot);
     raise_row(
         cells,
         k + w,
@@ -73,6 +75,15 @@ fn raise_fixed(masks: &[u32], cells: &mut [u16], trail: &[u8], n: usize, k: u32,
         wide(trail[n + slot]),
         wide(trail[slot]),
     );
+}
+
+// Puts the slot, which is not in it, into the set of open slots.
+fn open_slot(cells: &mut [u16], n: usize, k: u32, slot: usize)
+    requires { ⌜ (wordAt n k slot < length (now cells)) × (n ≤ 256) × (k ≤ 32) × (openBit n k (now cells) slot ≡ 0) ⌝ }
+    ensures { λ _. ⌜ now (cells .exit) ≡ openSlot n k slot (now (cells .entry)) ⌝ }
+{
+    let at = (k + k) as usize * (n + 2) + slot / 16;
+    cells[at] = domains::with(bits_of(cells[at]), (slot % 16) as u32) as u16;
 }
 
 // Takes the fall of a row after the slot back, by its tag and its note.
@@ -95,4 +106,10 @@ fn wide(x: u8) -> usize
     ensures { λ r. ⌜ r ≡ x ⌝ }
 {
     x as usize
+}
+
+fn bits_of(x: u16) -> u32
+    ensures { λ r. ⌜ (r ≡ x) × (r < 65536) ⌝ }
+{
+    x as u32
 }

@@ -232,7 +232,7 @@ fix-thin-requires t c κs =
     let less = c .before .before .before .before .less in
     let pre = c .before .before .before .before .before .before .before .before .before .before .before .before .before .before .pre in
     let world = world-moved (pre .1 .world) (c .before .before .before .before .before .before .before .before .loop .inv .done .moved) in (
-      record { world = world; slot-in = pre .1 .slot-in; value-in = other-value other world },
+      record { world = world; opens = c .before .before .before .before .before .before .before .before .loop .inv .done .moved .opens (pre .1 .opens); slot-in = pre .1 .slot-in; value-in = other-value other world },
       other-has other,
       others-wide _ _ others many,
       c .before .before .before .with .ensures ∙ less-with _ _ others many _ (lowest .ensures .1 .has) (less .ensures),
@@ -257,7 +257,7 @@ fix-add-h t c =
     let pre = c .before .before .before .before .before .before .before .before .before .before .before .before .before .before .before .before
     .before .before .before .before .before .before .pre in
     let world = world-moved (pre .1 .world) (done .moved) in
-    let room = ready-room (record { world = world; slot-in = pre .1 .slot-in; value-in = other-value other world }) (other-has other) in
+    let room = ready-room (record { world = world; opens = done .moved .opens (pre .1 .opens); slot-in = pre .1 .slot-in; value-in = other-value other world }) (other-has other) in
     let size : length (loop .trail) ≡ length (args .trail .now) = done .moved .trailed .size in
     omega (
       arith,
@@ -304,7 +304,7 @@ fix-fix-free-requires t c κs =
     let removed = thinned-made _ _ _ _ _ (loop .h) _ _ _ _ _ _ _ (c .before .before .before .before .before .before .before .before .before .before
     .before .before .thin .ensures) (c .before .before .before .before .before .if2 .left) in (
       omega (arith, removed .moved .height, total-less (done .moved .within), pre .0),
-      record { world = world-moved world (removed .moved); end-in = removed .low-in; value-in = other-value other world },
+      record { world = world-moved world (removed .moved); opens = removed .moved .opens (done .moved .opens (pre .1 .opens)); end-in = removed .low-in; value-in = other-value other world },
     )
 
 fix-enum-known-x : (t : ℕ) → fix-lts.Need-enum-known-x (fix-calls t) (fix-at t) fix.Post fix-Inv-loop fix-μ-loop
@@ -382,7 +382,7 @@ fix-strike-other-requires t c κs =
     let world = world-moved (pre .1 .world) (inv .done .moved) in (
       omega (arith, total-less (inv .done .moved .within), pre .0),
       (
-        record { world = world; slot-in = pre .1 .slot-in; value-in = pre .1 .value-in },
+        record { world = world; opens = inv .done .moved .opens (pre .1 .opens); slot-in = pre .1 .slot-in; value-in = pre .1 .value-in },
         inv .others,
         omega (arith, c .before .before .before .before .count .ensures, c .before .before .before .if1 .left),
       ),
@@ -457,6 +457,7 @@ fix-free-fix-requires t c κs =
       omega (arith, total-less (done .moved .within), pre .0),
       record {
         world = world-moved (pre .1 .world) (done .moved);
+        opens = done .moved .opens (pre .1 .opens);
         slot-in = omega (
           arith,
           c .before .before .before .before .before .before
@@ -579,7 +580,7 @@ follow-strike-free-requires-2 t c κs =
     let low = filtered-at (c .before .before .before .before .before .p .given .1) (c .before .before .before .before .before .before .before .before
     .before .before .before .before .before .fix-free .ensures) in (
       omega (arith, total-less (low .moved .within), pre .0),
-      record { world = world-moved (pre .1 .0 .world) (low .moved); end-in = pre .1 .1 .end-in; value-in = pre .1 .1 .value-in },
+      record { world = world-moved (pre .1 .0 .world) (low .moved); opens = low .moved .opens (pre .1 .0 .opens); end-in = pre .1 .1 .end-in; value-in = pre .1 .1 .value-in },
     )
 
 follow-returns-3 : (t : ℕ) → follow-lts.Need-returns-3 (follow-calls t) (follow-at t) follow.Post
@@ -712,8 +713,8 @@ strike-follow-requires t c κs =
     let world = world-moved (pre .1 .world) (made .moved) in (
       omega (arith, made .moved .height, pre .0),
       (
-        record { world = world; end-in = made .low-in; value-in = pre .1 .value-in },
-        record { world = world; end-in = made .high-in; value-in = made .value-in },
+        record { world = world; opens = made .moved .opens (pre .1 .opens); end-in = made .low-in; value-in = pre .1 .value-in },
+        record { world = world; opens = made .moved .opens (pre .1 .opens); end-in = made .high-in; value-in = made .value-in },
       ),
     )
 
@@ -812,6 +813,7 @@ strike-free-strike-requires t c κs =
       omega (arith, total-less (done .moved .within), pre .0),
       record {
         world = world-moved (pre .1 .world) (done .moved);
+        opens = done .moved .opens (pre .1 .opens);
         slot-in = omega (
           arith,
           c .before .before .before .before .before .before .before .before .before .loop-test .taken,
@@ -914,6 +916,7 @@ strike-free-thin-requires t c κs =
     .is-free .ensures) in (
       record {
         world = world-moved (pre .1 .world) (done .moved);
+        opens = done .moved .opens (pre .1 .opens);
         slot-in = omega (
           arith,
           c .before .before .before .before .before .before .before .before .before .before .before .loop-test .taken,
@@ -962,6 +965,7 @@ strike-free-add-h t c =
     .before .before .before .before .before .before .is-free .ensures) in
     let room = ready-room (record {
       world = world-moved (pre .1 .world) (done .moved);
+      opens = done .moved .opens (pre .1 .opens);
       slot-in = omega (
         arith,
         c .before .before .before .before .before .before .before .before .before .before .before .before .before .before .before .before .before
@@ -1034,6 +1038,7 @@ strike-free-fix-free-requires t c κs =
       omega (arith, removed .moved .height, total-less (done .moved .within), pre .0),
       record {
         world = world-moved (world-moved (pre .1 .world) (done .moved)) (removed .moved);
+        opens = removed .moved .opens (done .moved .opens (pre .1 .opens));
         end-in = removed .low-in;
         value-in = pre .1 .value-in;
       },
@@ -1201,7 +1206,7 @@ strike-other-strike-requires t c κs =
     let pre = c .before .before .before .before .before .before .before .before .pre in
     let ready = pre .1 .0 in (
       omega (arith, pre .0),
-      record { world = ready .world; slot-in = ready .slot-in; value-in = other-value (strike-other-other t c) (ready .world) },
+      record { world = ready .world; opens = ready .opens; slot-in = ready .slot-in; value-in = other-value (strike-other-other t c) (ready .world) },
     )
 
 strike-other-returns : (t : ℕ) → strike-other-lts.Need-returns (strike-other-calls t) (strike-other-at t) strike-other.Post

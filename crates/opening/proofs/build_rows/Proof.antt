@@ -53,7 +53,7 @@ build-in-requires c κs =
       omega (arith, fits, c .before .before .loop .inv .done .size),
       building .rises-in,
       building .slots,
-      building .slots-fit,
+      omega (arith, building .slots-fit),
       omega (arith, building .values-fit, c .before .loop-test .taken),
     )
 

@@ -24,7 +24,7 @@ prune-requires c κs =
     let pre = c .before .before .before .before .before .before .before .before .pre in
     let opening = pre .0 in
     let end-in = mirrored-spent (opening .mirrored) true (args .v) (spent .result) (pre .1) (spent .ensures) in
-    record { world = opening .world; end-in = end-in; value-in = pre .1 }
+    record { world = opening .world; opens = opening .mirrored .mirror .opens; end-in = end-in; value-in = pre .1 }
 
 enum-known-p : tie.Need-enum-known-p
 enum-known-p c = search needs
@@ -53,7 +53,7 @@ prune-requires-2 c κs =
     .before .before .before .before .before .before .before .pre in
     let opening = opening-more (pre .0) (filtered-at (p .given .1) (prune .ensures)) in
     let end-in = mirrored-spent (opening .mirrored) false (args .v) (spent2 .result) (pre .1) (spent2 .ensures) in
-    record { world = opening .world; end-in = end-in; value-in = pre .1 }
+    record { world = opening .world; opens = opening .mirrored .mirror .opens; end-in = end-in; value-in = pre .1 }
 
 same-length : tie.Need-same-length
 same-length c = search needs

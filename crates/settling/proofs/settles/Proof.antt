@@ -20,7 +20,7 @@ slice-aggregate-open-book-4 c = search needs
 
 open-book-requires : tie.Need-open-book-requires
 open-book-requires c κs =
-    state-room _ _ _ _ (c .before .before .before .before .before .before .before .pre) (le-refl 16512) (le-refl 25088) (le-refl 257) (le-refl 257)
+    state-room _ _ _ _ (c .before .before .before .before .before .before .before .pre) (le-refl 16528) (le-refl 25088) (le-refl 257) (le-refl 257)
 
 enum-told : tie.Need-enum-told
 enum-told c = search needs

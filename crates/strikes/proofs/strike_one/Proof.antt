@@ -1,5 +1,6 @@
 -- `strikes::strike_one` meets its contract: each of its three tests is a law of ContradictionLaws, and each of its two ways to a strike a law of
--- RemovalLaws; the notes fit a byte, and the tags (`low-note`, `low-tag`, `high-note`, `high-tag`). Assumes nothing.
+-- RemovalLaws; the notes fit a byte, and the tags (`low-note`, `low-tag`, `high-note`, `high-tag`), and the slot was open
+-- (`was-open`). Assumes nothing.
 use mathlib.Core.Path.{refl, sym, _∙_}
 use Prim.Native.Nat.{_+_, _≤_}
 use native.Mathlib.Omega.{arith}
@@ -7,7 +8,7 @@ use borrow.Author.Tests.{eqb-true, eqb-false, not-true, not-false}
 use borrow.Author.Needs.{needs}
 use Rattle.filter_model.proofs.StateLaws.{world-row, ready-room, ready-byte, ready-value}
 use Rattle.filter_model.proofs.ContradictionLaws.{left-in, contradicted-empty, contradicted-low, contradicted-high}
-use Rattle.filter_model.proofs.RemovalLaws.{low-note, low-tag, high-note, high-tag, removed-plain, removed-single}
+use Rattle.filter_model.proofs.RemovalLaws.{low-note, low-tag, high-note, high-tag, word-in, was-open, removed-plain, removed-single}
 use Rattle.strikes.proofs.strike_one.Statement.{statement}
 use Rattle.strikes.proofs.strike_one.Tie as tie
 
@@ -201,34 +202,25 @@ fall-row-requires-3 c κs =
     (omega (arith, left-in (args .slot) (args .v) (single-value .result) (ready .world) left)) refl in
     (omega (arith, ready .slot-in), omega (arith, fits, fall-row2 .ensures .0 .size), omega (arith, ready .world .slots-fit))
 
+close-slot-requires : tie.Need-close-slot-requires
+close-slot-requires c κs =
+    let pre = c .before .before .before .before .before .before .before .before .before .before .before .before .before .before .before .before .before .before .before .before .before .before .before .before .before .before .before .before .before .before .before .before .before .pre in
+    let ready = pre .0 in
+    let inside = word-in ready (pre .1) _ (c .before .before .before .before .before .before .before .before .before .before .before .before .before .before .before .before .before .before .before .before .before .before .before .before .before .before .before .before .without-value .ensures) (c .before .before .before .before .before .before .before .before .before .before .before .before .before .before .before .before .before .before .before .before .before .before .before .before .before .before .before .if1 .left) (c .before .before .before .before .before .before .before .before .before .before .before .before .before .before .before .before .before .before .before .before .before .before .before .before .before .spent .ensures) (c .before .before .before .before .before .before .before .before .before .before .before .before .before .before .before .before .before .before .before .before .before .before .before .before .if2 .left) (c .before .before .before .before .before .before .before .before .before .before .before .before .fall-row2 .ensures .0)
+    (c .before .before .before .before .before .before .before .before .before .before .before .before .before .before .before .before .store2 .ensures) (c .before .before .before .before .before .before .before .push2 .ensures) _ (c .before .before .before .before .before .before .before .before .before .before .before .before .before .before .before .before .before .before .before .before .before .single-value .ensures .1) (c .before .before .before .before .before .before .before .before .before .before .before .before .before .before .before .before .before .before .before .spent2 .ensures) (c .before .before .before .before .before .before .before .before .before .before .before .before .before .before .before .before .before .before .if4 .left) (c .before .before .before .fall-row3 .ensures .0) in
+    let is-open = was-open ready (pre .1) _ (c .before .before .before .before .before .before .before .before .before .before .before .before .before .before .before .before .before .before .before .before .before .before .before .before .before .before .before .before .without-value .ensures) (c .before .before .before .before .before .before .before .before .before .before .before .before .before .before .before .before .before .before .before .before .before .before .before .before .before .before .before .if1 .left) (c .before .before .before .before .before .before .before .before .before .before .before .before .before .before .before .before .before .before .before .before .before .before .before .before .before .spent .ensures) (c .before .before .before .before .before .before .before .before .before .before .before .before .before .before .before .before .before .before .before .before .before .before .before .before .if2 .left) (c .before .before .before .before .before .before .before .before .before .before .before .before .fall-row2 .ensures .0)
+    (c .before .before .before .before .before .before .before .before .before .before .before .before .before .before .before .before .store2 .ensures) (c .before .before .before .before .before .before .before .push2 .ensures) _ (c .before .before .before .before .before .before .before .before .before .before .before .before .before .before .before .before .before .before .before .before .before .single-value .ensures .1) (c .before .before .before .before .before .before .before .before .before .before .before .before .before .before .before .before .before .before .before .spent2 .ensures) (c .before .before .before .before .before .before .before .before .before .before .before .before .before .before .before .before .before .before .if4 .left) (c .before .before .before .fall-row3 .ensures .0) in
+    (inside, ready .world .slots-fit, ready .world .values-fit, is-open)
+
 note-fixed-requires : tie.Need-note-fixed-requires
 note-fixed-requires c κs =
-    let fall-row3 = c .before .before .before .fall-row3 in
-    let push2 = c .before .before .before .before .before .before .before .push2 in
-    let fall-row2 = c .before .before .before .before .before .before .before .before .before .before .before .before .fall-row2 in
-    let store2 = c .before .before .before .before .before .before .before .before .before .before .before .before .before .before .before .before .store2 in
-    let if4 = c .before .before .before .before .before .before .before .before .before .before .before .before .before .before .before .before .before .before
-    .if4 in
-    let spent2 = c .before .before .before .before .before .before .before .before .before .before .before .before .before .before .before .before .before .before
-    .before .spent2 in
-    let single-value = c .before .before .before .before .before .before .before .before .before .before .before .before .before .before .before .before .before
-    .before .before .before .before .single-value in
-    let if2 = c .before .before .before .before .before .before .before .before .before .before .before .before .before .before .before .before .before .before
-    .before .before .before .before .before .before .if2 in
-    let spent = c .before .before .before .before .before .before .before .before .before .before .before .before .before .before .before .before .before .before
-    .before .before .before .before .before .before .before .spent in
-    let if1 = c .before .before .before .before .before .before .before .before .before .before .before .before .before .before .before .before .before .before
-    .before .before .before .before .before .before .before .before .before .if1 in
-    let without-value = c .before .before .before .before .before .before .before .before .before .before .before .before .before .before .before .before .before
-    .before .before .before .before .before .before .before .before .before .before .before .without-value in
-    let pre = c .before .before .before .before .before .before .before .before .before .before .before .before .before .before .before .before .before .before
-    .before .before .before .before .before .before .before .before .before .before .before .before .before .before .before .pre in
+    let pre = c .before .before .before .before .before .before .before .before .before .before .before .before .before .before .before .before .before .before .before .before .before .before .before .before .before .before .before .before .before .before .before .before .before .before .before .before .before .pre in
     let ready = pre .0 in
-    let note = high-note ready (pre .1) _ (without-value .ensures) (if1 .left) (spent .ensures) (if2 .left) (fall-row2 .ensures .0)
-    (store2 .ensures) (push2 .ensures) _ (single-value .ensures .1) (spent2 .ensures) (if4 .left) (fall-row3 .ensures .0) in
-    let tag = high-tag ready (pre .1) _ (without-value .ensures) (if1 .left) (spent .ensures) (if2 .left) (fall-row2 .ensures .0)
-    (store2 .ensures) (push2 .ensures) _ (single-value .ensures .1) (spent2 .ensures) (if4 .left) (fall-row3 .ensures .0) in
-    (ready .slot-in, omega (arith, ready-room ready (pre .1), push2 .kept .0), tag, note)
+    let note = high-note ready (pre .1) _ (c .before .before .before .before .before .before .before .before .before .before .before .before .before .before .before .before .before .before .before .before .before .before .before .before .before .before .before .before .before .before .before .before .without-value .ensures) (c .before .before .before .before .before .before .before .before .before .before .before .before .before .before .before .before .before .before .before .before .before .before .before .before .before .before .before .before .before .before .before .if1 .left) (c .before .before .before .before .before .before .before .before .before .before .before .before .before .before .before .before .before .before .before .before .before .before .before .before .before .before .before .before .before .spent .ensures) (c .before .before .before .before .before .before .before .before .before .before .before .before .before .before .before .before .before .before .before .before .before .before .before .before .before .before .before .before .if2 .left) (c .before .before .before .before .before .before .before .before .before .before .before .before .before .before .before .before .fall-row2 .ensures .0)
+    (c .before .before .before .before .before .before .before .before .before .before .before .before .before .before .before .before .before .before .before .before .store2 .ensures) (c .before .before .before .before .before .before .before .before .before .before .before .push2 .ensures) _ (c .before .before .before .before .before .before .before .before .before .before .before .before .before .before .before .before .before .before .before .before .before .before .before .before .before .single-value .ensures .1) (c .before .before .before .before .before .before .before .before .before .before .before .before .before .before .before .before .before .before .before .before .before .before .before .spent2 .ensures) (c .before .before .before .before .before .before .before .before .before .before .before .before .before .before .before .before .before .before .before .before .before .before .if4 .left) (c .before .before .before .before .before .before .before .fall-row3 .ensures .0) in
+    let tag = high-tag ready (pre .1) _ (c .before .before .before .before .before .before .before .before .before .before .before .before .before .before .before .before .before .before .before .before .before .before .before .before .before .before .before .before .before .before .before .before .without-value .ensures) (c .before .before .before .before .before .before .before .before .before .before .before .before .before .before .before .before .before .before .before .before .before .before .before .before .before .before .before .before .before .before .before .if1 .left) (c .before .before .before .before .before .before .before .before .before .before .before .before .before .before .before .before .before .before .before .before .before .before .before .before .before .before .before .before .before .spent .ensures) (c .before .before .before .before .before .before .before .before .before .before .before .before .before .before .before .before .before .before .before .before .before .before .before .before .before .before .before .before .if2 .left) (c .before .before .before .before .before .before .before .before .before .before .before .before .before .before .before .before .fall-row2 .ensures .0)
+    (c .before .before .before .before .before .before .before .before .before .before .before .before .before .before .before .before .before .before .before .before .store2 .ensures) (c .before .before .before .before .before .before .before .before .before .before .before .push2 .ensures) _ (c .before .before .before .before .before .before .before .before .before .before .before .before .before .before .before .before .before .before .before .before .before .before .before .before .before .single-value .ensures .1) (c .before .before .before .before .before .before .before .before .before .before .before .before .before .before .before .before .before .before .before .before .before .before .before .spent2 .ensures) (c .before .before .before .before .before .before .before .before .before .before .before .before .before .before .before .before .before .before .before .before .before .before .if4 .left) (c .before .before .before .before .before .before .before .fall-row3 .ensures .0) in
+    (ready .slot-in, omega (arith, ready-room ready (pre .1), c .before .before .before .before .before .before .before .before .before .before .before .push2 .kept .0), tag, note)
 
 same-length-9 : tie.Need-same-length-9
 same-length-9 c = search needs
@@ -241,31 +233,10 @@ same-length-11 c = search needs
 
 returns-5 : tie.Need-returns-5
 returns-5 c =
-    let note-fixed = c .before .before .note-fixed in
-    let fall-row3 = c .before .before .before .before .before .before .fall-row3 in
-    let push2 = c .before .before .before .before .before .before .before .before .before .before .push2 in
-    let fall-row2 = c .before .before .before .before .before .before .before .before .before .before .before .before .before .before .before .fall-row2 in
-    let store2 = c .before .before .before .before .before .before .before .before .before .before .before .before .before .before .before .before .before .before
-    .before .store2 in
-    let if4 = c .before .before .before .before .before .before .before .before .before .before .before .before .before .before .before .before .before .before
-    .before .before .before .if4 in
-    let spent2 = c .before .before .before .before .before .before .before .before .before .before .before .before .before .before .before .before .before .before
-    .before .before .before .before .spent2 in
-    let single-value = c .before .before .before .before .before .before .before .before .before .before .before .before .before .before .before .before .before
-    .before .before .before .before .before .before .before .single-value in
-    let if2 = c .before .before .before .before .before .before .before .before .before .before .before .before .before .before .before .before .before .before
-    .before .before .before .before .before .before .before .before .before .if2 in
-    let spent = c .before .before .before .before .before .before .before .before .before .before .before .before .before .before .before .before .before .before
-    .before .before .before .before .before .before .before .before .before .before .spent in
-    let if1 = c .before .before .before .before .before .before .before .before .before .before .before .before .before .before .before .before .before .before
-    .before .before .before .before .before .before .before .before .before .before .before .before .if1 in
-    let without-value = c .before .before .before .before .before .before .before .before .before .before .before .before .before .before .before .before .before
-    .before .before .before .before .before .before .before .before .before .before .before .before .before .before .without-value in
-    let pre = c .before .before .before .before .before .before .before .before .before .before .before .before .before .before .before .before .before .before
-    .before .before .before .before .before .before .before .before .before .before .before .before .before .before .before .before .before .before
-    .pre in
-    removed-single (pre .0) (pre .1) _ (without-value .ensures) (if1 .left) (spent .ensures) (if2 .left) (fall-row2 .ensures .0)
-    (store2 .ensures) (push2 .ensures) _ (single-value .ensures .1) (spent2 .ensures) (if4 .left) (fall-row3 .ensures .0) (note-fixed .ensures)
+    let pre = c .before .before .before .before .before .before .before .before .before .before .before .before .before .before .before .before .before .before .before .before .before .before .before .before .before .before .before .before .before .before .before .before .before .before .before .before .before .before .before .before .pre in
+    removed-single (pre .0) (pre .1) _ (c .before .before .before .before .before .before .before .before .before .before .before .before .before .before .before .before .before .before .before .before .before .before .before .before .before .before .before .before .before .before .before .before .before .before .before .without-value .ensures) (c .before .before .before .before .before .before .before .before .before .before .before .before .before .before .before .before .before .before .before .before .before .before .before .before .before .before .before .before .before .before .before .before .before .before .if1 .left) (c .before .before .before .before .before .before .before .before .before .before .before .before .before .before .before .before .before .before .before .before .before .before .before .before .before .before .before .before .before .before .before .before .spent .ensures) (c .before .before .before .before .before .before .before .before .before .before .before .before .before .before .before .before .before .before .before .before .before .before .before .before .before .before .before .before .before .before .before .if2 .left) (c .before .before .before .before .before .before .before .before .before .before .before .before .before .before .before .before .before .before .before .fall-row2 .ensures .0)
+    (c .before .before .before .before .before .before .before .before .before .before .before .before .before .before .before .before .before .before .before .before .before .before .before .store2 .ensures) (c .before .before .before .before .before .before .before .before .before .before .before .before .before .before .push2 .ensures) _ (c .before .before .before .before .before .before .before .before .before .before .before .before .before .before .before .before .before .before .before .before .before .before .before .before .before .before .before .before .single-value .ensures .1) (c .before .before .before .before .before .before .before .before .before .before .before .before .before .before .before .before .before .before .before .before .before .before .before .before .before .before .spent2 .ensures) (c .before .before .before .before .before .before .before .before .before .before .before .before .before .before .before .before .before .before .before .before .before .before .before .before .before .if4 .left) (c .before .before .before .before .before .before .before .before .before .before .fall-row3 .ensures .0) (c .before .before .before .before .before .before .close-slot .ensures)
+    (c .before .before .note-fixed .ensures)
 
 pub strike-one-spec : {M : Type 1} → statement M
 strike-one-spec =
@@ -298,6 +269,7 @@ strike-one-spec =
     push-requires-2
     add-fall-row
     fall-row-requires-3
+    close-slot-requires
     note-fixed-requires
     same-length-9
     same-length-10

@@ -1,6 +1,7 @@
--- `undoing::raise_fixed` meets its contract: the slot's only value is that of the mask, and its upper row is raised (`upper-undone`). Assumes nothing.
+-- `undoing::raise_fixed` meets its contract: the slot's only value is that of the mask, the slot is put into the set of open slots (`upper-bit`), and
+-- the value's upper row is raised (`upper-undone`). Assumes nothing.
 use mathlib.Core.Path.{refl}
-use Rattle.undoing.proofs.UndoneLaws.{upper-row, upper-undone}
+use Rattle.undoing.proofs.UndoneLaws.{upper-bit, upper-row, upper-undone}
 use borrow.Author.Needs.{needs}
 use Rattle.undoing.proofs.raise_fixed.Statement.{statement}
 use Rattle.undoing.proofs.raise_fixed.Tie as tie
@@ -13,6 +14,10 @@ shared-slice-read-single-value c = search needs
 
 single-value-requires : tie.Need-single-value-requires
 single-value-requires c κs = search needs
+
+open-slot-requires : tie.Need-open-slot-requires
+open-slot-requires c κs =
+    upper-bit refl _ (c .before .single-value .ensures .1) (c .before .before .before .before .before .before .pre)
 
 add-raise-row : tie.Need-add-raise-row
 add-raise-row c = search needs
@@ -34,14 +39,14 @@ wide-requires-2 c κs = search needs
 
 raise-row-requires : tie.Need-raise-row-requires
 raise-row-requires c κs =
-    upper-row refl _ (c .before .before .before .before .before .single-value .ensures .1) _ _ (c .before .before .wide .ensures) (c .wide2 .ensures) (c .before .before .before .before .before .before .before .before .before .before .pre)
+    upper-row refl _ (c .before .before .before .before .before .before .before .before .before .single-value .ensures .1) (c .before .before .before .before .before .before .before .open-slot .ensures) _ _ (c .before .before .wide .ensures) (c .wide2 .ensures) (c .before .before .before .before .before .before .before .before .before .before .before .before .before .before .pre)
 
 same-length : tie.Need-same-length
 same-length c = search needs
 
 returns : tie.Need-returns
 returns c =
-    upper-undone refl _ (c .before .before .before .before .before .before .before .before .single-value .ensures .1) (c .before .before .before .before .before .wide .ensures) (c .before .before .before .wide2 .ensures) (c .before .before .raise-row .ensures)
+    upper-undone refl _ (c .before .before .before .before .before .before .before .before .before .before .before .before .single-value .ensures .1) (c .before .before .before .before .before .before .before .before .before .before .open-slot .ensures) (c .before .before .before .before .before .wide .ensures) (c .before .before .before .wide2 .ensures) (c .before .before .raise-row .ensures)
 
 pub raise-fixed-spec : {M : Type 1} → statement M
 raise-fixed-spec =
@@ -50,6 +55,7 @@ raise-fixed-spec =
     mul-single-value
     shared-slice-read-single-value
     single-value-requires
+    open-slot-requires
     add-raise-row
     add-wide
     shared-slice-read-wide

@@ -24,7 +24,7 @@ slice-aggregate-run-book-5 c = search needs
 
 run-book-requires : tie.Need-run-book-requires
 run-book-requires c κs =
-    ready-runnable _ _ _ _ (c .before .before .before .before .before .before .before .before .before .before .before .pre) (le-refl 16512) (le-refl 25088) (le-refl 257) (le-refl 257) (lit< tt)
+    ready-runnable _ _ _ _ (c .before .before .before .before .before .before .before .before .before .before .before .pre) (le-refl 16528) (le-refl 25088) (le-refl 257) (le-refl 257) (lit< tt)
 
 same-length : tie.Need-same-length
 same-length c = search needs
