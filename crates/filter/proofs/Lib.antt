@@ -2,3 +2,4 @@ pub mod FilteredLaws
 pub mod LargestLaws
 pub mod LoopLaws
 pub mod StrikeLaws
+mod SweepLaws

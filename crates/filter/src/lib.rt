@@ -168,7 +168,8 @@ pub fn prune(
     strike_free(masks, cells, trail, n, k, top, v, 0, end)
 }
 
-// Where the lower bound of v is met at `end`: fixes each free slot from `start` on before it to v.
+// Where the lower bound of v is met at `end`: fixes each free slot from `start` on before it to v. It looks at the open slots alone, a word of
+// their set at a time.
 fn fix_free(
     masks: &mut [u32],
     cells: &mut [u16],
@@ -185,7 +186,17 @@ fn fix_free(
         (now (masks .entry)) (now (cells .entry)) (now (trail .entry)) top (now (masks .exit)) (now (cells .exit)) (now (trail .exit)) r ⌝ }
 {
     let mut h = top;
-    for s in start..end {
+    let mut b = start / 16;
+    let mut word = strikes::open_block(cells, n, k, b, start, end);
+    while b < (end + 15) / 16 {
+        if word == 0 {
+            b += 1;
+            word = strikes::open_block(cells, n, k, b, start, end);
+            continue;
+        }
+        let w = domains::lowest(word);
+        word = domains::less(word, w);
+        let s = 16 * b + w as usize;
         if !strikes::is_free(masks, s, v) {
             continue;
         }
@@ -197,7 +208,7 @@ fn fix_free(
     Outcome::Live(h)
 }
 
-// Where the upper bound of v is met at `end`: strikes v from each free slot from `start` on before it.
+// Where the upper bound of v is met at `end`: strikes v from each free slot from `start` on before it, of the open ones as `fix_free`.
 fn strike_free(
     masks: &mut [u32],
     cells: &mut [u16],
@@ -214,7 +225,17 @@ fn strike_free(
         (now (masks .entry)) (now (cells .entry)) (now (trail .entry)) top (now (masks .exit)) (now (cells .exit)) (now (trail .exit)) r ⌝ }
 {
     let mut h = top;
-    for slot in start..end {
+    let mut b = start / 16;
+    let mut word = strikes::open_block(cells, n, k, b, start, end);
+    while b < (end + 15) / 16 {
+        if word == 0 {
+            b += 1;
+            word = strikes::open_block(cells, n, k, b, start, end);
+            continue;
+        }
+        let w = domains::lowest(word);
+        word = domains::less(word, w);
+        let slot = 16 * b + w as usize;
         if !strikes::is_free(masks, slot, v) {
             continue;
         }

@@ -39,7 +39,6 @@ pub record BlockAsked (cells : List ℕ) (n k b start end : ℕ) : Type 0 where
   pub slots-fit : n ≤ 256
   pub values-fit : k ≤ 32
   pub end-in : end ≤ n
-  pub block-in : b ≤ 16
   pub start-in : start < 16 * b + 16
 
 pub record OpenBlock (n k : ℕ) (cells : List ℕ) (b start end r : ℕ) : Type 0 where

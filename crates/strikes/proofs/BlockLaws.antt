@@ -36,7 +36,7 @@ before-bits x base end y x<65536 y-is =
 
 -- ---- OpenBlock
 module _ (n k : ℕ) (cells : List ℕ) (b start end : ℕ) where
-  pub block-none : end ≤ 16 * b → OpenBlock n k cells b start end 0
+  pub block-none : (end + 15) / 16 ≤ b → OpenBlock n k cells b start end 0
   block-none past =
       record {
         word = omega arith;

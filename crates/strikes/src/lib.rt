@@ -161,8 +161,8 @@ pub fn open_block(cells: &[u16], n: usize, k: u32, b: usize, start: usize, end: 
     requires { ⌜ BlockAsked (now cells) n k b start end ⌝ }
     ensures { λ r. ⌜ OpenBlock n k (now (cells .entry)) b start end r ⌝ }
 {
-    if end <= 16 * b {
-        return 0;
+    if (end + 15) / 16 <= b {
+        return 0u32;
     }
     let x = word(cells, n, k, b);
     bits_before(bits_from(x, 16 * b, start), 16 * b, end)

@@ -3,7 +3,7 @@
 -- `Filtered` for what was passed: the other values that are struck, the slots that are settled; each turn is `filtered-more`. In `fix` it is also
 -- that `rest` is what the slot has besides v (`others-less`). A turn with `thin` is `thin-quiet` or `thin-followed`; `strike` is
 -- `strike-followed`, and `follow` is `follow-both` where both its loops run. Assumes nothing.
-use mathlib.Core.Path.{_≡_, sym, _∙_}
+use mathlib.Core.Path.{_≡_, refl, sym, _∙_}
 use mathlib.Core.Bool.{Bool, true, false}
 use mathlib.Core.List.{List}
 use Prim.Native.Nat.{ℕ, _+_, _-_, _*_, _<_}
@@ -14,10 +14,9 @@ use borrow.Author.Needs.{needs}
 use borrow.Author.Tests.{eqb-true, eqb-false, ltb-true, not-true, not-false}
 use borrow.Fn.Kinds.{In}
 use borrow.Fn.PlainCycle.{Measures, is, falls, and}
+use Rattle.domains.proofs.MasksLaws.{subset-refl}
 use Rattle.domains.specs.Masks.{HasAt, total}
 use Rattle.filter_model.specs.Cuts.{FixCut, BoundCut}
-use Rattle.filter_model.specs.Mirror.{SettledFrom}
-use Rattle.filter_model.proofs.MirrorLaws.{settled-from-none, settled-from-next, settled-from-before}
 use Rattle.filter_model.proofs.StateLaws.{world-moved, ready-slot, ready-value, ready-room}
 use Rattle.strikes.specs.Answers.{OtherValues}
 use Rattle.strikes.proofs.AnswerLaws.{answer-contradicted, answer-removed, thinned-clash, thinned-made, free-no, free-yes}
@@ -26,7 +25,8 @@ use Rattle.filter.specs.Filtered.{Filtered}
 use Rattle.filter.specs.declared.Outcome.the-variants.{Live}
 use Rattle.filter.proofs.FilteredLaws.{filtered-at, filtered-refl, filtered-more, filtered-goal, filtered-asks}
 use Rattle.filter.proofs.LoopLaws.{Other, other-of, other-has, other-value, other-cut, other-last, other-none, total-less}
-use Rattle.filter.proofs.LoopLaws.{free-concerned, settled-cut}
+use Rattle.filter.proofs.LoopLaws.{free-concerned}
+use Rattle.filter.proofs.SweepLaws.{Left, left-block, left-less, left-next, block-asked, Swept, swept-first, swept-block, swept-slot, swept-cut, swept-end}
 use Rattle.filter.proofs.StrikeLaws.{strike-absent, strike-contradicted, strike-followed}
 use Rattle.filter.proofs.StrikeLaws.{fix-absent, follow-none, follow-high, follow-low, follow-dead, follow-both, thin-quiet, thin-followed}
 use Rattle.filter.proofs.fix.Reads as fix
@@ -55,6 +55,7 @@ use Rattle.domains.proofs.less.Reads as less-reads
 use Rattle.domains.proofs.lowest.Reads as lowest-reads
 use Rattle.domains.proofs.with.Reads as with-reads
 use Rattle.strikes.proofs.other_values.Reads as other-values-reads
+use Rattle.strikes.proofs.open_block.Reads as open-block-reads
 use Rattle.strikes.proofs.strike_one.Reads as strike-one-reads
 use Rattle.strikes.proofs.thin.Reads as thin-reads
 use Rattle.strikes.proofs.without_value.Reads as without-value-reads
@@ -66,9 +67,10 @@ record FixInv (n k slot v : ℕ) (masks₀ cells₀ trail₀ : List ℕ) (h₀ :
   done : Filtered n k (FixCut slot v) (λ M. Unit {0}) masks₀ cells₀ trail₀ h₀ masks cells trail (Live h)
   others : OtherValues (getD masks slot 0) v rest
 
--- all from the start on before s is settled
-record FreeInv (kind : Bool) (n k v start end : ℕ) (masks₀ cells₀ trail₀ : List ℕ) (h₀ : ℕ) (masks cells trail : List ℕ) (h s : ℕ) : Type 0 where
-  done : Filtered n k (BoundCut kind masks₀ v end) (λ M. SettledFrom M v start s) masks₀ cells₀ trail₀ h₀ masks cells trail (Live h)
+-- all from the start on is settled but what is left: the slots of the word, and those after the block b
+record FreeInv (kind : Bool) (n k v start end : ℕ) (masks₀ cells₀ trail₀ : List ℕ) (h₀ : ℕ) (masks cells trail : List ℕ) (h b word : ℕ) : Type 0 where
+  done : Filtered n k (BoundCut kind masks₀ v end) (λ M. Swept M v start end b word) masks₀ cells₀ trail₀ h₀ masks cells trail (Live h)
+  left : Left start end b word
 
 abbrev μ-fix : Measures 3 fix-kinds.ps ℕ
 μ-fix κs a = 5 * total (a .0 .now) + 2
@@ -145,7 +147,18 @@ fix-calls t = (
 )
 
 abbrev fix-free-calls : ℕ → fix-free-lts.Claims
-fix-free-calls t = (is-free-reads.Asked, is-free-reads.Learnt, fix-below t, fix.Post)
+fix-free-calls t = (
+  open-block-reads.Asked,
+  open-block-reads.Learnt,
+  lowest-reads.Asked,
+  lowest-reads.Learnt,
+  less-reads.Asked,
+  less-reads.Learnt,
+  is-free-reads.Asked,
+  is-free-reads.Learnt,
+  fix-below t,
+  fix.Post,
+)
 
 abbrev follow-calls : ℕ → follow-lts.Claims
 follow-calls t = (strike-free-below t, strike-free.Post, fix-free-below t, fix-free.Post)
@@ -155,6 +168,12 @@ strike-calls t = (has-value-reads.Asked, has-value-reads.Learnt, strike-one-read
 
 abbrev strike-free-calls : ℕ → strike-free-lts.Claims
 strike-free-calls t = (
+  open-block-reads.Asked,
+  open-block-reads.Learnt,
+  lowest-reads.Asked,
+  lowest-reads.Learnt,
+  less-reads.Asked,
+  less-reads.Learnt,
   is-free-reads.Asked,
   is-free-reads.Learnt,
   is-wide-reads.Asked,
@@ -420,117 +439,143 @@ fix-same-length-9 : (t : ℕ) → fix-lts.Need-same-length-9 (fix-calls t) (fix-
 fix-same-length-9 t c = fix-returns-3 t c .moved .trailed .size
 
 abbrev fix-free-Inv-loop : fix-free-lts.InvT-loop
-fix-free-Inv-loop masks₀ cells₀ trail₀ n k top v start end h₀ s₀ masks cells trail h s =
-    FreeInv true n k v start end masks₀ cells₀ trail₀ h₀ masks cells trail h s
+fix-free-Inv-loop masks₀ cells₀ trail₀ n k top v start end h₀ b₀ word₀ masks cells trail h b word =
+    FreeInv true n k v start end masks₀ cells₀ trail₀ h₀ masks cells trail h b word
 
 abbrev fix-free-μ-loop : fix-free-lts.MeasureT-loop
-fix-free-μ-loop masks₀ cells₀ trail₀ n k top v start end h₀ s₀ masks cells trail h s = end - s
+fix-free-μ-loop masks₀ cells₀ trail₀ n k top v start end h₀ b₀ word₀ masks cells trail h b word = 65536 * (end - 16 * b) + word
+
+fix-free-open-block-requires : (t : ℕ) → fix-free-lts.Need-open-block-requires (fix-free-calls t) (fix-free-at t) fix-free.Post fix-free-Inv-loop fix-free-μ-loop
+fix-free-open-block-requires t c κs =
+    block-asked (c .before .before .before .before .pre .1) (c .before .before .before .before .pre .1 .world) (omega arith)
 
 fix-free-loop-holds : (t : ℕ) → fix-free-lts.Need-loop-holds (fix-free-calls t) (fix-free-at t) fix-free.Post fix-free-Inv-loop fix-free-μ-loop
-fix-free-loop-holds t c = record { done = filtered-refl _ _ _ _ (settled-from-none _ _ _ _ (omega arith)) }
+fix-free-loop-holds t c =
+    let pruning = c .before .before .before .before .before .pre .1 in
+    record {
+      done = filtered-refl _ _ _ _ (swept-first refl (pruning .end-in) (pruning .opens) (c .open-block .ensures));
+      left = left-block (omega arith) (c .open-block .ensures);
+    }
 
-fix-free-is-free-requires : (t : ℕ) → fix-free-lts.Need-is-free-requires (fix-free-calls t) (fix-free-at t) fix-free.Post fix-free-Inv-loop
-    fix-free-μ-loop
-fix-free-is-free-requires t c κs =
-    let pruning = c .before .before .before .before .before .before .pre .1 in (
-      omega (arith, c .before .loop-test .taken, c .before .before .loop .inv .done .moved .within .len, pruning .end-in, pruning .world .slots),
-      omega (arith, pruning .value-in, pruning .world .values-fit),
-    )
+fix-free-add-loop : (t : ℕ) → fix-free-lts.Need-add-loop (fix-free-calls t) (fix-free-at t) fix-free.Post fix-free-Inv-loop fix-free-μ-loop
+fix-free-add-loop t c =
+    omega (arith, c .before .before .before .before .before .before .pre .1 .end-in, c .before .before .before .before .before .before .pre .1 .world .slots-fit)
 
-fix-free-add-s : (t : ℕ) → fix-free-lts.Need-add-s (fix-free-calls t) (fix-free-at t) fix-free.Post fix-free-Inv-loop fix-free-μ-loop
-fix-free-add-s t c =
-    omega (arith, c .before .before .before .loop-test .taken, c .before .before .before .before .before .before .before .before .fits .end)
+fix-free-add-b : (t : ℕ) → fix-free-lts.Need-add-b (fix-free-calls t) (fix-free-at t) fix-free.Post fix-free-Inv-loop fix-free-μ-loop
+fix-free-add-b t c =
+    omega (arith, c .before .loop-test .taken, c .before .before .before .before .before .before .before .before .pre .1 .end-in, c .before .before .before .before .before .before .before .before .pre .1 .world .slots-fit)
+
+fix-free-open-block-requires-2 : (t : ℕ) → fix-free-lts.Need-open-block-requires-2 (fix-free-calls t) (fix-free-at t) fix-free.Post fix-free-Inv-loop fix-free-μ-loop
+fix-free-open-block-requires-2 t c κs =
+    let pruning = c .before .before .before .before .before .before .before .before .before .pre .1 in
+    block-asked pruning (world-moved (pruning .world) (c .before .before .before .loop .inv .done .moved)) (omega (arith, c .before .before .before .loop .inv .left .start-in))
 
 fix-free-loop-less : (t : ℕ) → fix-free-lts.Need-loop-less (fix-free-calls t) (fix-free-at t) fix-free.Post fix-free-Inv-loop fix-free-μ-loop
-fix-free-loop-less t c = omega (arith, c .before .before .before .loop-test .taken)
+fix-free-loop-less t c =
+    omega (arith, c .before .before .before .loop-test .taken, c .open-block2 .ensures .word)
 
 fix-free-loop-again : (t : ℕ) → fix-free-lts.Need-loop-again (fix-free-calls t) (fix-free-at t) fix-free.Post fix-free-Inv-loop fix-free-μ-loop
 fix-free-loop-again t c =
-    let loop = c .before .before .before .before .loop in
-    let fixed = free-no _ _ {r = c .before .is-free .result} (not-true _ (c .if1 .taken)) (c .before .is-free .ensures) in
-    record { done = filtered-goal (loop .inv .done) (λ live settled. settled-from-next fixed settled) }
+    let pruning = c .before .before .before .before .before .before .before .before .before .before .pre .1 in
+    let inv = c .before .before .before .before .loop .inv in
+    record {
+      done =
+          filtered-goal (inv .done)
+          (λ live swept.
+          swept-block (pruning .end-in) (inv .done .moved .opens (pruning .opens)) (c .before .before .if1 .taken) swept (c .open-block2 .ensures));
+      left = left-block (omega (arith, inv .left .start-in)) (c .open-block2 .ensures);
+    }
+
+fix-free-lowest-requires : (t : ℕ) → fix-free-lts.Need-lowest-requires (fix-free-calls t) (fix-free-at t) fix-free.Post fix-free-Inv-loop fix-free-μ-loop
+fix-free-lowest-requires t c κs =
+    omega (arith, c .if1 .left)
+
+fix-free-less-requires : (t : ℕ) → fix-free-lts.Need-less-requires (fix-free-calls t) (fix-free-at t) fix-free.Post fix-free-Inv-loop fix-free-μ-loop
+fix-free-less-requires t c κs =
+    (c .lowest .ensures .0, c .lowest .ensures .1 .has)
+
+fix-free-mul-s : (t : ℕ) → fix-free-lts.Need-mul-s (fix-free-calls t) (fix-free-at t) fix-free.Post fix-free-Inv-loop fix-free-μ-loop
+fix-free-mul-s t c =
+    omega (arith, c .before .before .before .loop-test .taken, c .before .before .before .before .before .before .before .before .before .before .pre .1 .end-in, c .before .before .before .before .before .before .before .before .before .before .pre .1 .world .slots-fit)
+
+fix-free-cast-s : (t : ℕ) → fix-free-lts.Need-cast-s (fix-free-calls t) (fix-free-at t) fix-free.Post fix-free-Inv-loop fix-free-μ-loop
+fix-free-cast-s t c =
+    omega (arith, c .before .lowest .ensures .0)
+
+fix-free-add-s : (t : ℕ) → fix-free-lts.Need-add-s (fix-free-calls t) (fix-free-at t) fix-free.Post fix-free-Inv-loop fix-free-μ-loop
+fix-free-add-s t c =
+    omega (arith, c .before .before .before .loop-test .taken, c .before .lowest .ensures .0, c .before .before .before .before .before .before .before .before .before .before .pre .1 .end-in, c .before .before .before .before .before .before .before .before .before .before .pre .1 .world .slots-fit)
+
+fix-free-is-free-requires : (t : ℕ) → fix-free-lts.Need-is-free-requires (fix-free-calls t) (fix-free-at t) fix-free.Post fix-free-Inv-loop fix-free-μ-loop
+fix-free-is-free-requires t c κs =
+    let pruning = c .before .before .before .before .before .before .before .before .before .before .before .pre .1 in (
+      omega (arith, c .before .before .before .before .before .loop .inv .left .before (c .before .before .lowest .result) (c .before .before .lowest .ensures .1 .has), c .before .before .before .before .before .loop .inv .done .moved .within .len, pruning .end-in, pruning .world .slots),
+      omega (arith, pruning .value-in, pruning .world .values-fit),
+    )
+
+fix-free-loop-less-2 : (t : ℕ) → fix-free-lts.Need-loop-less-2 (fix-free-calls t) (fix-free-at t) fix-free.Post fix-free-Inv-loop fix-free-μ-loop
+fix-free-loop-less-2 t c =
+    omega (arith, left-less (c .before .before .before .before .before .before .before .loop .inv .left) (c .before .before .before .before .lowest .result) (c .before .before .before .before .lowest .ensures .1 .has) (c .before .before .before .less .ensures))
+
+fix-free-loop-again-2 : (t : ℕ) → fix-free-lts.Need-loop-again-2 (fix-free-calls t) (fix-free-at t) fix-free.Post fix-free-Inv-loop fix-free-μ-loop
+fix-free-loop-again-2 t c =
+    let fixed = free-no _ _ {r = c .before .is-free .result} (not-true _ (c .if2 .taken)) (c .before .is-free .ensures) in
+    record {
+      done = filtered-goal (c .before .before .before .before .before .before .before .loop .inv .done) (λ live swept. swept-slot (c .before .before .before .before .lowest .result) (c .before .before .before .less .ensures) refl (subset-refl _) fixed swept);
+      left = left-next (c .before .before .before .before .before .before .before .loop .inv .left) (c .before .before .before .before .lowest .result) (c .before .before .before .before .lowest .ensures .1 .has) (c .before .before .before .less .ensures);
+    }
 
 fix-free-fix-requires : (t : ℕ) → fix-free-lts.Need-fix-requires (fix-free-calls t) (fix-free-at t) fix-free.Post fix-free-Inv-loop fix-free-μ-loop
 fix-free-fix-requires t c κs =
-    let pre = c .before .before .before .before .before .before .before .before .before .before .before .pre in
-    let done = c .before .before .before .before .before .before .before .loop .inv .done in (
+    let pre = c .before .before .before .before .before .before .before .before .before .before .before .before .before .before .before .before .pre in
+    let done = c .before .before .before .before .before .before .before .before .before .before .loop .inv .done in (
       omega (arith, total-less (done .moved .within), pre .0),
       record {
         world = world-moved (pre .1 .world) (done .moved);
         opens = done .moved .opens (pre .1 .opens);
-        slot-in = omega (
-          arith,
-          c .before .before .before .before .before .before
-              .loop-test .taken,
-          pre .1 .end-in,
-        );
+        slot-in = omega (arith, c .before .before .before .before .before .before .before .before .before .before .loop .inv .left .before (c .before .before .before .before .before .before .before .lowest .result) (c .before .before .before .before .before .before .before .lowest .ensures .1 .has), pre .1 .end-in);
         value-in = pre .1 .value-in;
       },
     )
 
 fix-free-enum-known-x : (t : ℕ) → fix-free-lts.Need-enum-known-x (fix-free-calls t) (fix-free-at t) fix-free.Post fix-free-Inv-loop fix-free-μ-loop
-fix-free-enum-known-x t c = search needs
+fix-free-enum-known-x t c =
+    search needs
 
-fix-free-enum-known-x-2 : (t : ℕ) → fix-free-lts.Need-enum-known-x-2 (fix-free-calls t) (fix-free-at t) fix-free.Post fix-free-Inv-loop
-    fix-free-μ-loop
-fix-free-enum-known-x-2 t c = search needs
+fix-free-loop-less-3 : (t : ℕ) → fix-free-lts.Need-loop-less-3 (fix-free-calls t) (fix-free-at t) fix-free.Post fix-free-Inv-loop fix-free-μ-loop
+fix-free-loop-less-3 t c =
+    omega (arith, left-less (c .before .before .before .before .before .before .before .before .before .before .before .before .before .before .before .before .before .before .before .before .loop .inv .left) (c .before .before .before .before .before .before .before .before .before .before .before .before .before .before .before .before .before .lowest .result) (c .before .before .before .before .before .before .before .before .before .before .before .before .before .before .before .before .before .lowest .ensures .1 .has) (c .before .before .before .before .before .before .before .before .before .before .before .before .before .before .before .before .less .ensures))
+
+fix-free-loop-again-3 : (t : ℕ) → fix-free-lts.Need-loop-again-3 (fix-free-calls t) (fix-free-at t) fix-free.Post fix-free-Inv-loop fix-free-μ-loop
+fix-free-loop-again-3 t c =
+    let done = c .before .before .before .before .before .before .before .before .before .before .before .before .before .before .before .before .before .before .before .before .loop .inv .done in
+    let args = c .before .before .before .before .before .before .before .before .before .before .before .before .before .before .before .before .before .before .before .before .before .before .before .before .before .before .args in
+    let slot = 16 * c .before .before .before .before .before .before .before .before .before .before .before .before .before .before .before .before .before .before .before .before .loop .b + c .before .before .before .before .before .before .before .before .before .before .before .before .before .before .before .before .before .lowest .result in
+    let free = free-yes _ _ {r = c .before .before .before .before .before .before .before .before .before .before .before .before .before .before .is-free .result} (not-false _ (c .before .before .before .before .before .before .before .before .before .before .before .before .before .if2 .left)) (c .before .before .before .before .before .before .before .before .before .before .before .before .before .before .is-free .ensures) in
+    let asks = free-concerned true (done .moved .within) slot (args .v) (free .0) (free .1) in
+    record {
+      done =
+          filtered-more done (filtered-at (c .before .x .given .1) (c .before .before .before .before .before .before .before .before .before .fix .ensures)) (λ N cut. cut .each slot (c .before .before .before .before .before .before .before .before .before .before .before .before .before .before .before .before .before .before .before .before .loop .inv .left .before (c .before .before .before .before .before .before .before .before .before .before .before .before .before .before .before .before .before .lowest .result) (c .before .before .before .before .before .before .before .before .before .before .before .before .before .before .before .before .before .lowest .ensures .1 .has)) asks)
+          (λ live swept cut. swept-cut true (c .before .before .before .before .before .before .before .before .before .before .before .before .before .before .before .before .before .lowest .result) (c .before .before .before .before .before .before .before .before .before .before .before .before .before .before .before .before .less .ensures) refl (c .before .before .before .before .before .before .before .before .before .fix .ensures .moved .within) cut swept);
+      left = left-next (c .before .before .before .before .before .before .before .before .before .before .before .before .before .before .before .before .before .before .before .before .loop .inv .left) (c .before .before .before .before .before .before .before .before .before .before .before .before .before .before .before .before .before .lowest .result) (c .before .before .before .before .before .before .before .before .before .before .before .before .before .before .before .before .before .lowest .ensures .1 .has) (c .before .before .before .before .before .before .before .before .before .before .before .before .before .before .before .before .less .ensures);
+    }
+
+fix-free-enum-known-x-2 : (t : ℕ) → fix-free-lts.Need-enum-known-x-2 (fix-free-calls t) (fix-free-at t) fix-free.Post fix-free-Inv-loop fix-free-μ-loop
+fix-free-enum-known-x-2 t c =
+    search needs
 
 fix-free-returns : (t : ℕ) → fix-free-lts.Need-returns (fix-free-calls t) (fix-free-at t) fix-free.Post fix-free-Inv-loop fix-free-μ-loop
 fix-free-returns t c =
-    let loop = c .before .before .before .before .before .before .before .before .before .before .before .before .before .before .before .before
-    .before .loop in
-    let args = c .before .before .before .before .before .before .before .before .before .before .before .before .before .before .before .before
-    .before .before .before .before .before .args in
-    let done = loop .inv .done in
-    let free = free-yes _ _ {r = c .before .before .before .before .before .before .before .before .before .before .before .before .before .before
-    .is-free .result} (not-false _ (c .before .before .before .before .before .before .before .before .before .before .before .before .before .if1
-    .left)) (c .before .before .before .before .before .before .before .before .before .before .before .before .before .before .is-free .ensures) in
-    let asks = free-concerned true (done .moved .within) (loop .s) (args .v) (free .0) (free .1) in
-    filtered-more done (filtered-at (c .before .x2 .given .1) (c .before .before .before .before .before .before .before .before .before .fix
-    .ensures)) (λ N cut. cut .each (loop .s) (c .before .before .before .before .before .before .before .before .before .before .before .before
-    .before .before .before .before .loop-test .taken) asks) (λ no. absurd no)
-
-fix-free-add-s-2 : (t : ℕ) → fix-free-lts.Need-add-s-2 (fix-free-calls t) (fix-free-at t) fix-free.Post fix-free-Inv-loop fix-free-μ-loop
-fix-free-add-s-2 t c =
-    omega (
-      arith,
-      c .before .before .before .before .before .before .before .before .before .before .before .before .before .before .before .before
-          .loop-test .taken,
-      c .before .before .before .before .before .before .before .before .before .before .before .before .before .before .before
-          .before .before .before .before .before .before .fits .end,
-    )
-
-fix-free-loop-less-2 : (t : ℕ) → fix-free-lts.Need-loop-less-2 (fix-free-calls t) (fix-free-at t) fix-free.Post fix-free-Inv-loop fix-free-μ-loop
-fix-free-loop-less-2 t c =
-    omega (
-      arith,
-      c .before .before .before .before .before .before .before .before .before .before .before .before .before .before .before .before
-          .loop-test .taken,
-    )
-
-fix-free-loop-again-2 : (t : ℕ) → fix-free-lts.Need-loop-again-2 (fix-free-calls t) (fix-free-at t) fix-free.Post fix-free-Inv-loop fix-free-μ-loop
-fix-free-loop-again-2 t c =
-    let loop = c .before .before .before .before .before .before .before .before .before .before .before .before .before .before .before .before
-    .before .loop in
-    let args = c .before .before .before .before .before .before .before .before .before .before .before .before .before .before .before .before
-    .before .before .before .before .before .args in
-    let done = loop .inv .done in
-    let free = free-yes _ _ {r = c .before .before .before .before .before .before .before .before .before .before .before .before .before .before
-    .is-free .result} (not-false _ (c .before .before .before .before .before .before .before .before .before .before .before .before .before .if1
-    .left)) (c .before .before .before .before .before .before .before .before .before .before .before .before .before .before .is-free .ensures) in
-    let asks = free-concerned true (done .moved .within) (loop .s) (args .v) (free .0) (free .1) in
-    record {
-      done = filtered-more done (filtered-at (c .before .x .given .1) (c .before .before .before .before .before .before .before .before .before .fix
-          .ensures))
-          (λ N cut. cut .each (loop .s) (c .before .before .before .before .before .before .before .before .before .before .before .before .before
-          .before .before .before .loop-test .taken) asks)
-          (λ live. settled-cut true (args .v) (loop .s) (c .before .before .before .before .before .before .before .before .before .fix .ensures
-          .moved .within));
-    }
+    let done = c .before .before .before .before .before .before .before .before .before .before .before .before .before .before .before .before .before .before .before .before .loop .inv .done in
+    let args = c .before .before .before .before .before .before .before .before .before .before .before .before .before .before .before .before .before .before .before .before .before .before .before .before .before .before .args in
+    let slot = 16 * c .before .before .before .before .before .before .before .before .before .before .before .before .before .before .before .before .before .before .before .before .loop .b + c .before .before .before .before .before .before .before .before .before .before .before .before .before .before .before .before .before .lowest .result in
+    let free = free-yes _ _ {r = c .before .before .before .before .before .before .before .before .before .before .before .before .before .before .is-free .result} (not-false _ (c .before .before .before .before .before .before .before .before .before .before .before .before .before .if2 .left)) (c .before .before .before .before .before .before .before .before .before .before .before .before .before .before .is-free .ensures) in
+    let asks = free-concerned true (done .moved .within) slot (args .v) (free .0) (free .1) in
+    filtered-more done (filtered-at (c .before .x2 .given .1) (c .before .before .before .before .before .before .before .before .before .fix .ensures)) (λ N cut. cut .each slot (c .before .before .before .before .before .before .before .before .before .before .before .before .before .before .before .before .before .before .before .before .loop .inv .left .before (c .before .before .before .before .before .before .before .before .before .before .before .before .before .before .before .before .before .lowest .result) (c .before .before .before .before .before .before .before .before .before .before .before .before .before .before .before .before .before .lowest .ensures .1 .has)) asks) (λ no. absurd no)
 
 fix-free-returns-2 : (t : ℕ) → fix-free-lts.Need-returns-2 (fix-free-calls t) (fix-free-at t) fix-free.Post fix-free-Inv-loop fix-free-μ-loop
 fix-free-returns-2 t c =
-    filtered-goal (c .before .loop .inv .done) (λ live settled. settled-from-before (c .loop-test .left) settled)
+    filtered-goal (c .before .loop .inv .done) (λ live swept. swept-end (c .loop-test .left) swept)
 
 fix-free-same-length : (t : ℕ) → fix-free-lts.Need-same-length (fix-free-calls t) (fix-free-at t) fix-free.Post fix-free-Inv-loop fix-free-μ-loop
 fix-free-same-length t c = fix-free-returns t c .moved .within .len
@@ -758,283 +803,217 @@ strike-same-length-10 : (t : ℕ) → strike-lts.Need-same-length-10 (strike-cal
 strike-same-length-10 t c = strike-returns-4 t c .moved .trailed .size
 
 abbrev strike-free-Inv-loop : strike-free-lts.InvT-loop
-strike-free-Inv-loop masks₀ cells₀ trail₀ n k top v start end h₀ slot₀ masks cells trail h slot =
-    FreeInv false n k v start end masks₀ cells₀ trail₀ h₀ masks cells trail h slot
+strike-free-Inv-loop masks₀ cells₀ trail₀ n k top v start end h₀ b₀ word₀ masks cells trail h b word =
+    FreeInv false n k v start end masks₀ cells₀ trail₀ h₀ masks cells trail h b word
 
 abbrev strike-free-μ-loop : strike-free-lts.MeasureT-loop
-strike-free-μ-loop masks₀ cells₀ trail₀ n k top v start end h₀ slot₀ masks cells trail h slot = end - slot
+strike-free-μ-loop masks₀ cells₀ trail₀ n k top v start end h₀ b₀ word₀ masks cells trail h b word = 65536 * (end - 16 * b) + word
 
-strike-free-loop-holds : (t : ℕ) → strike-free-lts.Need-loop-holds (strike-free-calls t) (strike-free-at t) strike-free.Post strike-free-Inv-loop
-    strike-free-μ-loop
-strike-free-loop-holds t c = record { done = filtered-refl _ _ _ _ (settled-from-none _ _ _ _ (omega arith)) }
+strike-free-open-block-requires : (t : ℕ) → strike-free-lts.Need-open-block-requires (strike-free-calls t) (strike-free-at t) strike-free.Post strike-free-Inv-loop strike-free-μ-loop
+strike-free-open-block-requires t c κs =
+    block-asked (c .before .before .before .before .pre .1) (c .before .before .before .before .pre .1 .world) (omega arith)
 
-strike-free-is-free-requires : (t : ℕ) → strike-free-lts.Need-is-free-requires (strike-free-calls t) (strike-free-at t) strike-free.Post
-    strike-free-Inv-loop strike-free-μ-loop
+strike-free-loop-holds : (t : ℕ) → strike-free-lts.Need-loop-holds (strike-free-calls t) (strike-free-at t) strike-free.Post strike-free-Inv-loop strike-free-μ-loop
+strike-free-loop-holds t c =
+    let pruning = c .before .before .before .before .before .pre .1 in
+    record {
+      done = filtered-refl _ _ _ _ (swept-first refl (pruning .end-in) (pruning .opens) (c .open-block .ensures));
+      left = left-block (omega arith) (c .open-block .ensures);
+    }
+
+strike-free-add-loop : (t : ℕ) → strike-free-lts.Need-add-loop (strike-free-calls t) (strike-free-at t) strike-free.Post strike-free-Inv-loop strike-free-μ-loop
+strike-free-add-loop t c =
+    omega (arith, c .before .before .before .before .before .before .pre .1 .end-in, c .before .before .before .before .before .before .pre .1 .world .slots-fit)
+
+strike-free-add-b : (t : ℕ) → strike-free-lts.Need-add-b (strike-free-calls t) (strike-free-at t) strike-free.Post strike-free-Inv-loop strike-free-μ-loop
+strike-free-add-b t c =
+    omega (arith, c .before .loop-test .taken, c .before .before .before .before .before .before .before .before .pre .1 .end-in, c .before .before .before .before .before .before .before .before .pre .1 .world .slots-fit)
+
+strike-free-open-block-requires-2 : (t : ℕ) → strike-free-lts.Need-open-block-requires-2 (strike-free-calls t) (strike-free-at t) strike-free.Post strike-free-Inv-loop strike-free-μ-loop
+strike-free-open-block-requires-2 t c κs =
+    let pruning = c .before .before .before .before .before .before .before .before .before .pre .1 in
+    block-asked pruning (world-moved (pruning .world) (c .before .before .before .loop .inv .done .moved)) (omega (arith, c .before .before .before .loop .inv .left .start-in))
+
+strike-free-loop-less : (t : ℕ) → strike-free-lts.Need-loop-less (strike-free-calls t) (strike-free-at t) strike-free.Post strike-free-Inv-loop strike-free-μ-loop
+strike-free-loop-less t c =
+    omega (arith, c .before .before .before .loop-test .taken, c .open-block2 .ensures .word)
+
+strike-free-loop-again : (t : ℕ) → strike-free-lts.Need-loop-again (strike-free-calls t) (strike-free-at t) strike-free.Post strike-free-Inv-loop strike-free-μ-loop
+strike-free-loop-again t c =
+    let pruning = c .before .before .before .before .before .before .before .before .before .before .pre .1 in
+    let inv = c .before .before .before .before .loop .inv in
+    record {
+      done =
+          filtered-goal (inv .done)
+          (λ live swept.
+          swept-block (pruning .end-in) (inv .done .moved .opens (pruning .opens)) (c .before .before .if1 .taken) swept (c .open-block2 .ensures));
+      left = left-block (omega (arith, inv .left .start-in)) (c .open-block2 .ensures);
+    }
+
+strike-free-lowest-requires : (t : ℕ) → strike-free-lts.Need-lowest-requires (strike-free-calls t) (strike-free-at t) strike-free.Post strike-free-Inv-loop strike-free-μ-loop
+strike-free-lowest-requires t c κs =
+    omega (arith, c .if1 .left)
+
+strike-free-less-requires : (t : ℕ) → strike-free-lts.Need-less-requires (strike-free-calls t) (strike-free-at t) strike-free.Post strike-free-Inv-loop strike-free-μ-loop
+strike-free-less-requires t c κs =
+    (c .lowest .ensures .0, c .lowest .ensures .1 .has)
+
+strike-free-mul-slot : (t : ℕ) → strike-free-lts.Need-mul-slot (strike-free-calls t) (strike-free-at t) strike-free.Post strike-free-Inv-loop strike-free-μ-loop
+strike-free-mul-slot t c =
+    omega (arith, c .before .before .before .loop-test .taken, c .before .before .before .before .before .before .before .before .before .before .pre .1 .end-in, c .before .before .before .before .before .before .before .before .before .before .pre .1 .world .slots-fit)
+
+strike-free-cast-slot : (t : ℕ) → strike-free-lts.Need-cast-slot (strike-free-calls t) (strike-free-at t) strike-free.Post strike-free-Inv-loop strike-free-μ-loop
+strike-free-cast-slot t c =
+    omega (arith, c .before .lowest .ensures .0)
+
+strike-free-add-slot : (t : ℕ) → strike-free-lts.Need-add-slot (strike-free-calls t) (strike-free-at t) strike-free.Post strike-free-Inv-loop strike-free-μ-loop
+strike-free-add-slot t c =
+    omega (arith, c .before .before .before .loop-test .taken, c .before .lowest .ensures .0, c .before .before .before .before .before .before .before .before .before .before .pre .1 .end-in, c .before .before .before .before .before .before .before .before .before .before .pre .1 .world .slots-fit)
+
+strike-free-is-free-requires : (t : ℕ) → strike-free-lts.Need-is-free-requires (strike-free-calls t) (strike-free-at t) strike-free.Post strike-free-Inv-loop strike-free-μ-loop
 strike-free-is-free-requires t c κs =
-    let pruning = c .before .before .before .before .before .before .pre .1 in (
-      omega (arith, c .before .loop-test .taken, c .before .before .loop .inv .done .moved .within .len, pruning .end-in, pruning .world .slots),
+    let pruning = c .before .before .before .before .before .before .before .before .before .before .before .pre .1 in (
+      omega (arith, c .before .before .before .before .before .loop .inv .left .before (c .before .before .lowest .result) (c .before .before .lowest .ensures .1 .has), c .before .before .before .before .before .loop .inv .done .moved .within .len, pruning .end-in, pruning .world .slots),
       omega (arith, pruning .value-in, pruning .world .values-fit),
     )
 
-strike-free-add-slot : (t : ℕ) → strike-free-lts.Need-add-slot (strike-free-calls t) (strike-free-at t) strike-free.Post strike-free-Inv-loop
-    strike-free-μ-loop
-strike-free-add-slot t c =
-    omega (arith, c .before .before .before .loop-test .taken, c .before .before .before .before .before .before .before .before .fits .end)
+strike-free-loop-less-2 : (t : ℕ) → strike-free-lts.Need-loop-less-2 (strike-free-calls t) (strike-free-at t) strike-free.Post strike-free-Inv-loop strike-free-μ-loop
+strike-free-loop-less-2 t c =
+    omega (arith, left-less (c .before .before .before .before .before .before .before .loop .inv .left) (c .before .before .before .before .lowest .result) (c .before .before .before .before .lowest .ensures .1 .has) (c .before .before .before .less .ensures))
 
-strike-free-loop-less : (t : ℕ) → strike-free-lts.Need-loop-less (strike-free-calls t) (strike-free-at t) strike-free.Post strike-free-Inv-loop
-    strike-free-μ-loop
-strike-free-loop-less t c = omega (arith, c .before .before .before .loop-test .taken)
+strike-free-loop-again-2 : (t : ℕ) → strike-free-lts.Need-loop-again-2 (strike-free-calls t) (strike-free-at t) strike-free.Post strike-free-Inv-loop strike-free-μ-loop
+strike-free-loop-again-2 t c =
+    let fixed = free-no _ _ {r = c .before .is-free .result} (not-true _ (c .if2 .taken)) (c .before .is-free .ensures) in
+    record {
+      done = filtered-goal (c .before .before .before .before .before .before .before .loop .inv .done) (λ live swept. swept-slot (c .before .before .before .before .lowest .result) (c .before .before .before .less .ensures) refl (subset-refl _) fixed swept);
+      left = left-next (c .before .before .before .before .before .before .before .loop .inv .left) (c .before .before .before .before .lowest .result) (c .before .before .before .before .lowest .ensures .1 .has) (c .before .before .before .less .ensures);
+    }
 
-strike-free-loop-again : (t : ℕ) → strike-free-lts.Need-loop-again (strike-free-calls t) (strike-free-at t) strike-free.Post strike-free-Inv-loop
-    strike-free-μ-loop
-strike-free-loop-again t c =
-    let loop = c .before .before .before .before .loop in
-    let fixed = free-no _ _ {r = c .before .is-free .result} (not-true _ (c .if1 .taken)) (c .before .is-free .ensures) in
-    record { done = filtered-goal (loop .inv .done) (λ live settled. settled-from-next fixed settled) }
-
-strike-free-is-wide-requires : (t : ℕ) → strike-free-lts.Need-is-wide-requires (strike-free-calls t) (strike-free-at t) strike-free.Post
-    strike-free-Inv-loop strike-free-μ-loop
+strike-free-is-wide-requires : (t : ℕ) → strike-free-lts.Need-is-wide-requires (strike-free-calls t) (strike-free-at t) strike-free.Post strike-free-Inv-loop strike-free-μ-loop
 strike-free-is-wide-requires t c κs =
-    let pruning = c .before .before .before .before .before .before .before .before .before .pre .1 in
-    omega (
-      arith,
-      c .before .before .before .before .loop-test .taken,
-      c .before .before .before .before .before .loop .inv .done .moved .within
-          .len,
-      pruning .end-in,
-      pruning .world .slots,
-    )
+    let pruning = c .before .before .before .before .before .before .before .before .before .before .before .before .before .before .pre .1 in
+    omega (arith, c .before .before .before .before .before .before .before .before .loop .inv .left .before (c .before .before .before .before .before .lowest .result) (c .before .before .before .before .before .lowest .ensures .1 .has), c .before .before .before .before .before .before .before .before .loop .inv .done .moved .within .len, pruning .end-in, pruning .world .slots)
 
-strike-free-strike-requires : (t : ℕ) → strike-free-lts.Need-strike-requires (strike-free-calls t) (strike-free-at t) strike-free.Post
-    strike-free-Inv-loop strike-free-μ-loop
+strike-free-strike-requires : (t : ℕ) → strike-free-lts.Need-strike-requires (strike-free-calls t) (strike-free-at t) strike-free.Post strike-free-Inv-loop strike-free-μ-loop
 strike-free-strike-requires t c κs =
-    let pre = c .before .before .before .before .before .before .before .before .before .before .before .before .before .before .pre in
-    let done = c .before .before .before .before .before .before .before .before .before .before .loop .inv .done in (
+    let pre = c .before .before .before .before .before .before .before .before .before .before .before .before .before .before .before .before .before .before .before .pre in
+    let done = c .before .before .before .before .before .before .before .before .before .before .before .before .before .loop .inv .done in (
       omega (arith, total-less (done .moved .within), pre .0),
       record {
         world = world-moved (pre .1 .world) (done .moved);
         opens = done .moved .opens (pre .1 .opens);
-        slot-in = omega (
-          arith,
-          c .before .before .before .before .before .before .before .before .before .loop-test .taken,
-          pre .1 .end-in,
-        );
+        slot-in = omega (arith, c .before .before .before .before .before .before .before .before .before .before .before .before .before .loop .inv .left .before (c .before .before .before .before .before .before .before .before .before .before .lowest .result) (c .before .before .before .before .before .before .before .before .before .before .lowest .ensures .1 .has), pre .1 .end-in);
         value-in = pre .1 .value-in;
       },
     )
 
-strike-free-enum-known-x : (t : ℕ) → strike-free-lts.Need-enum-known-x (strike-free-calls t) (strike-free-at t) strike-free.Post strike-free-Inv-loop
-    strike-free-μ-loop
-strike-free-enum-known-x t c = search needs
+strike-free-enum-known-x : (t : ℕ) → strike-free-lts.Need-enum-known-x (strike-free-calls t) (strike-free-at t) strike-free.Post strike-free-Inv-loop strike-free-μ-loop
+strike-free-enum-known-x t c =
+    search needs
 
-strike-free-enum-known-x-2 : (t : ℕ) → strike-free-lts.Need-enum-known-x-2 (strike-free-calls t) (strike-free-at t) strike-free.Post
-    strike-free-Inv-loop strike-free-μ-loop
-strike-free-enum-known-x-2 t c = search needs
+strike-free-enum-known-x-2 : (t : ℕ) → strike-free-lts.Need-enum-known-x-2 (strike-free-calls t) (strike-free-at t) strike-free.Post strike-free-Inv-loop strike-free-μ-loop
+strike-free-enum-known-x-2 t c =
+    search needs
 
-strike-free-returns : (t : ℕ) → strike-free-lts.Need-returns (strike-free-calls t) (strike-free-at t) strike-free.Post strike-free-Inv-loop
-    strike-free-μ-loop
+strike-free-returns : (t : ℕ) → strike-free-lts.Need-returns (strike-free-calls t) (strike-free-at t) strike-free.Post strike-free-Inv-loop strike-free-μ-loop
 strike-free-returns t c =
-    let loop = c .before .before .before .before .before .before .before .before .before .before .before .before .before .before .before .before
-    .before .before .before .before .loop in
-    let args = c .before .before .before .before .before .before .before .before .before .before .before .before .before .before .before .before
-    .before .before .before .before .before .before .before .before .args in
-    let done = loop .inv .done in
-    let free = free-yes _ _ {r = c .before .before .before .before .before .before .before .before .before .before .before .before .before .before
-    .before .before .before .is-free .result} (not-false _ (c .before .before .before .before .before .before .before .before .before .before .before
-    .before .before .before .before .before .if1 .left)) (c .before .before .before .before .before .before .before .before .before .before .before
-    .before .before .before .before .before .before .is-free .ensures) in
-    let asks = free-concerned false (done .moved .within) (loop .slot) (args .v) (free .0) (free .1) in
-    filtered-more done (filtered-at (c .before .x2 .given .1) (c .before .before .before .before .before .before .before .before .before .strike
-    .ensures)) (λ N cut. cut .each (loop .slot) (c .before .before .before .before .before .before .before .before .before .before .before .before
-    .before .before .before .before .before .before .before .loop-test .taken) asks) (λ no. absurd no)
+    let done = c .before .before .before .before .before .before .before .before .before .before .before .before .before .before .before .before .before .before .before .before .before .before .before .loop .inv .done in
+    let args = c .before .before .before .before .before .before .before .before .before .before .before .before .before .before .before .before .before .before .before .before .before .before .before .before .before .before .before .before .before .args in
+    let slot = 16 * c .before .before .before .before .before .before .before .before .before .before .before .before .before .before .before .before .before .before .before .before .before .before .before .loop .b + c .before .before .before .before .before .before .before .before .before .before .before .before .before .before .before .before .before .before .before .before .lowest .result in
+    let free = free-yes _ _ {r = c .before .before .before .before .before .before .before .before .before .before .before .before .before .before .before .before .before .is-free .result} (not-false _ (c .before .before .before .before .before .before .before .before .before .before .before .before .before .before .before .before .if2 .left)) (c .before .before .before .before .before .before .before .before .before .before .before .before .before .before .before .before .before .is-free .ensures) in
+    let asks = free-concerned false (done .moved .within) slot (args .v) (free .0) (free .1) in
+    filtered-more done (filtered-at (c .before .x2 .given .1) (c .before .before .before .before .before .before .before .before .before .strike .ensures)) (λ N cut. cut .each slot (c .before .before .before .before .before .before .before .before .before .before .before .before .before .before .before .before .before .before .before .before .before .before .before .loop .inv .left .before (c .before .before .before .before .before .before .before .before .before .before .before .before .before .before .before .before .before .before .before .before .lowest .result) (c .before .before .before .before .before .before .before .before .before .before .before .before .before .before .before .before .before .before .before .before .lowest .ensures .1 .has)) asks) (λ no. absurd no)
 
-strike-free-add-slot-2 : (t : ℕ) → strike-free-lts.Need-add-slot-2 (strike-free-calls t) (strike-free-at t) strike-free.Post strike-free-Inv-loop
-    strike-free-μ-loop
-strike-free-add-slot-2 t c =
-    omega (
-      arith,
-      c .before .before .before .before .before .before .before .before .before .before .before .before .before .before .before .before .before
-          .before .before .loop-test .taken,
-      c .before .before .before .before .before .before .before .before .before .before .before .before .before .before .before .before .before
-          .before .before .before .before .before .before .before .fits .end,
-    )
+strike-free-loop-less-3 : (t : ℕ) → strike-free-lts.Need-loop-less-3 (strike-free-calls t) (strike-free-at t) strike-free.Post strike-free-Inv-loop strike-free-μ-loop
+strike-free-loop-less-3 t c =
+    omega (arith, left-less (c .before .before .before .before .before .before .before .before .before .before .before .before .before .before .before .before .before .before .before .before .before .before .before .loop .inv .left) (c .before .before .before .before .before .before .before .before .before .before .before .before .before .before .before .before .before .before .before .before .lowest .result) (c .before .before .before .before .before .before .before .before .before .before .before .before .before .before .before .before .before .before .before .before .lowest .ensures .1 .has) (c .before .before .before .before .before .before .before .before .before .before .before .before .before .before .before .before .before .before .before .less .ensures))
 
-strike-free-loop-less-2 : (t : ℕ) → strike-free-lts.Need-loop-less-2 (strike-free-calls t) (strike-free-at t) strike-free.Post strike-free-Inv-loop
-    strike-free-μ-loop
-strike-free-loop-less-2 t c =
-    omega (
-      arith,
-      c .before .before .before .before .before .before .before .before .before .before .before .before .before .before .before .before .before
-          .before .before .loop-test .taken,
-    )
-
-strike-free-loop-again-2 : (t : ℕ) → strike-free-lts.Need-loop-again-2 (strike-free-calls t) (strike-free-at t) strike-free.Post strike-free-Inv-loop
-    strike-free-μ-loop
-strike-free-loop-again-2 t c =
-    let loop = c .before .before .before .before .before .before .before .before .before .before .before .before .before .before .before .before
-    .before .before .before .before .loop in
-    let args = c .before .before .before .before .before .before .before .before .before .before .before .before .before .before .before .before
-    .before .before .before .before .before .before .before .before .args in
-    let done = loop .inv .done in
-    let free = free-yes _ _ {r = c .before .before .before .before .before .before .before .before .before .before .before .before .before .before
-    .before .before .before .is-free .result} (not-false _ (c .before .before .before .before .before .before .before .before .before .before .before
-    .before .before .before .before .before .if1 .left)) (c .before .before .before .before .before .before .before .before .before .before .before
-    .before .before .before .before .before .before .is-free .ensures) in
-    let asks = free-concerned false (done .moved .within) (loop .slot) (args .v) (free .0) (free .1) in
+strike-free-loop-again-3 : (t : ℕ) → strike-free-lts.Need-loop-again-3 (strike-free-calls t) (strike-free-at t) strike-free.Post strike-free-Inv-loop strike-free-μ-loop
+strike-free-loop-again-3 t c =
+    let done = c .before .before .before .before .before .before .before .before .before .before .before .before .before .before .before .before .before .before .before .before .before .before .before .loop .inv .done in
+    let args = c .before .before .before .before .before .before .before .before .before .before .before .before .before .before .before .before .before .before .before .before .before .before .before .before .before .before .before .before .before .args in
+    let slot = 16 * c .before .before .before .before .before .before .before .before .before .before .before .before .before .before .before .before .before .before .before .before .before .before .before .loop .b + c .before .before .before .before .before .before .before .before .before .before .before .before .before .before .before .before .before .before .before .before .lowest .result in
+    let free = free-yes _ _ {r = c .before .before .before .before .before .before .before .before .before .before .before .before .before .before .before .before .before .is-free .result} (not-false _ (c .before .before .before .before .before .before .before .before .before .before .before .before .before .before .before .before .if2 .left)) (c .before .before .before .before .before .before .before .before .before .before .before .before .before .before .before .before .before .is-free .ensures) in
+    let asks = free-concerned false (done .moved .within) slot (args .v) (free .0) (free .1) in
     record {
-      done = filtered-more done (filtered-at (c .before .x .given .1) (c .before .before .before .before .before .before .before .before .before
-          .strike .ensures))
-          (λ N cut. cut .each (loop .slot) (c .before .before .before .before .before .before .before .before .before .before .before .before .before
-          .before .before .before .before .before .before .loop-test .taken) asks)
-          (λ live. settled-cut false (args .v) (loop .slot) (c .before .before .before .before .before .before .before .before .before .strike
-          .ensures .moved .within));
+      done =
+          filtered-more done (filtered-at (c .before .x .given .1) (c .before .before .before .before .before .before .before .before .before .strike .ensures)) (λ N cut. cut .each slot (c .before .before .before .before .before .before .before .before .before .before .before .before .before .before .before .before .before .before .before .before .before .before .before .loop .inv .left .before (c .before .before .before .before .before .before .before .before .before .before .before .before .before .before .before .before .before .before .before .before .lowest .result) (c .before .before .before .before .before .before .before .before .before .before .before .before .before .before .before .before .before .before .before .before .lowest .ensures .1 .has)) asks)
+          (λ live swept cut. swept-cut false (c .before .before .before .before .before .before .before .before .before .before .before .before .before .before .before .before .before .before .before .before .lowest .result) (c .before .before .before .before .before .before .before .before .before .before .before .before .before .before .before .before .before .before .before .less .ensures) refl (c .before .before .before .before .before .before .before .before .before .strike .ensures .moved .within) cut swept);
+      left = left-next (c .before .before .before .before .before .before .before .before .before .before .before .before .before .before .before .before .before .before .before .before .before .before .before .loop .inv .left) (c .before .before .before .before .before .before .before .before .before .before .before .before .before .before .before .before .before .before .before .before .lowest .result) (c .before .before .before .before .before .before .before .before .before .before .before .before .before .before .before .before .before .before .before .before .lowest .ensures .1 .has) (c .before .before .before .before .before .before .before .before .before .before .before .before .before .before .before .before .before .before .before .less .ensures);
     }
 
-strike-free-without-value-requires : (t : ℕ) → strike-free-lts.Need-without-value-requires (strike-free-calls t) (strike-free-at t) strike-free.Post
-    strike-free-Inv-loop strike-free-μ-loop
+strike-free-without-value-requires : (t : ℕ) → strike-free-lts.Need-without-value-requires (strike-free-calls t) (strike-free-at t) strike-free.Post strike-free-Inv-loop strike-free-μ-loop
 strike-free-without-value-requires t c κs =
-    let pruning = c .before .before .before .before .before .before .before .before .before .before .before .before .pre .1 in (
-      omega (
-        arith,
-        c .before .before .before .before .before .before .before .loop-test .taken,
-        c .before .before .before .before .before .before
-            .before .before .loop .inv .done .moved .within .len,
-        pruning .end-in,
-        pruning .world .slots,
-      ),
+    let pruning = c .before .before .before .before .before .before .before .before .before .before .before .before .before .before .before .before .before .pre .1 in (
+      omega (arith, c .before .before .before .before .before .before .before .before .before .before .before .loop .inv .left .before (c .before .before .before .before .before .before .before .before .lowest .result) (c .before .before .before .before .before .before .before .before .lowest .ensures .1 .has), c .before .before .before .before .before .before .before .before .before .before .before .loop .inv .done .moved .within .len, pruning .end-in, pruning .world .slots),
       omega (arith, pruning .value-in, pruning .world .values-fit),
     )
 
-strike-free-thin-requires : (t : ℕ) → strike-free-lts.Need-thin-requires (strike-free-calls t) (strike-free-at t) strike-free.Post
-    strike-free-Inv-loop strike-free-μ-loop
+strike-free-thin-requires : (t : ℕ) → strike-free-lts.Need-thin-requires (strike-free-calls t) (strike-free-at t) strike-free.Post strike-free-Inv-loop strike-free-μ-loop
 strike-free-thin-requires t c κs =
-    let pre = c .before .before .before .before .before .before .before .before .before .before .before .before .before .before .before .before .pre
-    in
-    let done = c .before .before .before .before .before .before .before .before .before .before .before .before .loop .inv .done in
-    let free = free-yes _ _ {r = c .before .before .before .before .before .before .before .before .before .is-free .result} (not-false _ (c .before
-    .before .before .before .before .before .before .before .if1 .left)) (c .before .before .before .before .before .before .before .before .before
-    .is-free .ensures) in (
+    let pre = c .before .before .before .before .before .before .before .before .before .before .before .before .before .before .before .before .before .before .before .before .before .pre in
+    let done = c .before .before .before .before .before .before .before .before .before .before .before .before .before .before .before .loop .inv .done in
+    let free = free-yes _ _ {r = c .before .before .before .before .before .before .before .before .before .is-free .result} (not-false _ (c .before .before .before .before .before .before .before .before .if2 .left)) (c .before .before .before .before .before .before .before .before .before .is-free .ensures) in (
       record {
         world = world-moved (pre .1 .world) (done .moved);
         opens = done .moved .opens (pre .1 .opens);
-        slot-in = omega (
-          arith,
-          c .before .before .before .before .before .before .before .before .before .before .before .loop-test .taken,
-          pre .1
-              .end-in,
-        );
+        slot-in = omega (arith, c .before .before .before .before .before .before .before .before .before .before .before .before .before .before .before .loop .inv .left .before (c .before .before .before .before .before .before .before .before .before .before .before .before .lowest .result) (c .before .before .before .before .before .before .before .before .before .before .before .before .lowest .ensures .1 .has), pre .1 .end-in);
         value-in = pre .1 .value-in;
       },
       free .0,
-      ltb-true 2 _ (sym (c .before .before .before .before .before .before .is-wide .ensures) ∙ not-false _ (c .before .before .before .before
-          .before .if2 .left)),
+      ltb-true 2 _ (sym (c .before .before .before .before .before .before .is-wide .ensures) ∙ not-false _ (c .before .before .before .before .before .if3 .left)),
       c .before .before .before .without-value .ensures,
     )
 
-strike-free-returns-2 : (t : ℕ) → strike-free-lts.Need-returns-2 (strike-free-calls t) (strike-free-at t) strike-free.Post strike-free-Inv-loop
-    strike-free-μ-loop
+strike-free-returns-2 : (t : ℕ) → strike-free-lts.Need-returns-2 (strike-free-calls t) (strike-free-at t) strike-free.Post strike-free-Inv-loop strike-free-μ-loop
 strike-free-returns-2 t c =
-    let loop = c .before .before .before .before .before .before .before .before .before .before .before .before .before .before .before .before
-    .before .before .before .before .loop in
-    let args = c .before .before .before .before .before .before .before .before .before .before .before .before .before .before .before .before
-    .before .before .before .before .before .before .before .before .args in
-    let done = loop .inv .done in
-    let free = free-yes _ _ {r = c .before .before .before .before .before .before .before .before .before .before .before .before .before .before
-    .before .before .before .is-free .result} (not-false _ (c .before .before .before .before .before .before .before .before .before .before .before
-    .before .before .before .before .before .if1 .left)) (c .before .before .before .before .before .before .before .before .before .before .before
-    .before .before .before .before .before .before .is-free .ensures) in
-    let asks = free-concerned false (done .moved .within) (loop .slot) (args .v) (free .0) (free .1) in
-    filtered-more done (strike-contradicted {G = λ (M : List ℕ). Unit {0}} (thinned-clash _ _ _ _ _ (loop .h) _ _ _ _ _ _ _ (c .before .before
-    .before .before .before .before .before .thin .ensures) (c .if3 .taken))) (λ N cut. cut .each (loop .slot) (c .before .before .before .before
-    .before .before .before .before .before .before .before .before .before .before .before .before .before .before .before .loop-test .taken) asks)
+    let done = c .before .before .before .before .before .before .before .before .before .before .before .before .before .before .before .before .before .before .before .before .before .before .before .loop .inv .done in
+    let args = c .before .before .before .before .before .before .before .before .before .before .before .before .before .before .before .before .before .before .before .before .before .before .before .before .before .before .before .before .before .args in
+    let slot = 16 * c .before .before .before .before .before .before .before .before .before .before .before .before .before .before .before .before .before .before .before .before .before .before .before .loop .b + c .before .before .before .before .before .before .before .before .before .before .before .before .before .before .before .before .before .before .before .before .lowest .result in
+    let free = free-yes _ _ {r = c .before .before .before .before .before .before .before .before .before .before .before .before .before .before .before .before .before .is-free .result} (not-false _ (c .before .before .before .before .before .before .before .before .before .before .before .before .before .before .before .before .if2 .left)) (c .before .before .before .before .before .before .before .before .before .before .before .before .before .before .before .before .before .is-free .ensures) in
+    let asks = free-concerned false (done .moved .within) slot (args .v) (free .0) (free .1) in
+    filtered-more done (strike-contradicted {G = λ (M : List ℕ). Unit {0}} (thinned-clash _ _ _ _ _ (c .before .before .before .before .before .before .before .before .before .before .before .before .before .before .before .before .before .before .before .before .before .before .before .loop .h) _ _ _ _ _ _ _ (c .before .before .before .before .before .before .before .thin .ensures) (c .if4 .taken))) (λ N cut. cut .each slot (c .before .before .before .before .before .before .before .before .before .before .before .before .before .before .before .before .before .before .before .before .before .before .before .loop .inv .left .before (c .before .before .before .before .before .before .before .before .before .before .before .before .before .before .before .before .before .before .before .before .lowest .result) (c .before .before .before .before .before .before .before .before .before .before .before .before .before .before .before .before .before .before .before .before .lowest .ensures .1 .has)) asks)
     (λ no. absurd no)
 
-strike-free-add-h : (t : ℕ) → strike-free-lts.Need-add-h (strike-free-calls t) (strike-free-at t) strike-free.Post strike-free-Inv-loop
-    strike-free-μ-loop
+strike-free-add-h : (t : ℕ) → strike-free-lts.Need-add-h (strike-free-calls t) (strike-free-at t) strike-free.Post strike-free-Inv-loop strike-free-μ-loop
 strike-free-add-h t c =
-    let pre = c .before .before .before .before .before .before .before .before .before .before .before .before .before .before .before .before
-    .before .before .before .before .before .before .before .before .pre in
-    let args = c .before .before .before .before .before .before .before .before .before .before .before .before .before .before .before .before
-    .before .before .before .before .before .before .before .before .args in
-    let loop = c .before .before .before .before .before .before .before .before .before .before .before .before .before .before .before .before
-    .before .before .before .before .loop in
-    let done = loop .inv .done in
-    let free = free-yes _ _ {r = c .before .before .before .before .before .before .before .before .before .before .before .before .before .before
-    .before .before .before .is-free .result} (not-false _ (c .before .before .before .before .before .before .before .before .before .before .before
-    .before .before .before .before .before .if1 .left)) (c .before .before .before .before .before .before .before .before .before .before .before
-    .before .before .before .before .before .before .is-free .ensures) in
+    let pre = c .before .before .before .before .before .before .before .before .before .before .before .before .before .before .before .before .before .before .before .before .before .before .before .before .before .before .before .before .before .pre in
+    let args = c .before .before .before .before .before .before .before .before .before .before .before .before .before .before .before .before .before .before .before .before .before .before .before .before .before .before .before .before .before .args in
+    let done = c .before .before .before .before .before .before .before .before .before .before .before .before .before .before .before .before .before .before .before .before .before .before .before .loop .inv .done in
+    let free = free-yes _ _ {r = c .before .before .before .before .before .before .before .before .before .before .before .before .before .before .before .before .before .is-free .result} (not-false _ (c .before .before .before .before .before .before .before .before .before .before .before .before .before .before .before .before .if2 .left)) (c .before .before .before .before .before .before .before .before .before .before .before .before .before .before .before .before .before .is-free .ensures) in
     let room = ready-room (record {
       world = world-moved (pre .1 .world) (done .moved);
       opens = done .moved .opens (pre .1 .opens);
-      slot-in = omega (
-        arith,
-        c .before .before .before .before .before .before .before .before .before .before .before .before .before .before .before .before .before
-            .before .before .loop-test .taken,
-        pre .1 .end-in,
-      );
+      slot-in = omega (arith, c .before .before .before .before .before .before .before .before .before .before .before .before .before .before .before .before .before .before .before .before .before .before .before .loop .inv .left .before (c .before .before .before .before .before .before .before .before .before .before .before .before .before .before .before .before .before .before .before .before .lowest .result) (c .before .before .before .before .before .before .before .before .before .before .before .before .before .before .before .before .before .before .before .before .lowest .ensures .1 .has), pre .1 .end-in);
       value-in = pre .1 .value-in;
     }) (free .0) in
-    let size : length (loop .trail) ≡ length (args .trail .now) = done .moved .trailed .size in
-    omega (
-      arith,
-      room,
-      size,
-      c .before .before .before .before .before .before .before .before .before .before .before .before .before .before .before .before .before
-          .before .before .before .before .before .before .before .good,
-    )
+    let size : length (c .before .before .before .before .before .before .before .before .before .before .before .before .before .before .before .before .before .before .before .before .before .before .before .loop .trail) ≡ length (args .trail .now) = done .moved .trailed .size in
+    omega (arith, room, size, c .before .before .before .before .before .before .before .before .before .before .before .before .before .before .before .before .before .before .before .before .before .before .before .before .before .before .before .before .before .good)
 
-strike-free-add-slot-3 : (t : ℕ) → strike-free-lts.Need-add-slot-3 (strike-free-calls t) (strike-free-at t) strike-free.Post strike-free-Inv-loop
-    strike-free-μ-loop
-strike-free-add-slot-3 t c =
-    omega (
-      arith,
-      c .before .before .before .before .before .before .before .before .before .before .before .before .before .before .before .before .before
-          .before .before .before .before .loop-test .taken,
-      c .before .before .before .before .before .before .before .before .before .before .before .before .before .before .before .before .before
-          .before .before .before .before .before .before .before .before .before .fits .end,
-    )
+strike-free-loop-less-4 : (t : ℕ) → strike-free-lts.Need-loop-less-4 (strike-free-calls t) (strike-free-at t) strike-free.Post strike-free-Inv-loop strike-free-μ-loop
+strike-free-loop-less-4 t c =
+    omega (arith, left-less (c .before .before .before .before .before .before .before .before .before .before .before .before .before .before .before .before .before .before .before .before .before .before .before .before .before .loop .inv .left) (c .before .before .before .before .before .before .before .before .before .before .before .before .before .before .before .before .before .before .before .before .before .before .lowest .result) (c .before .before .before .before .before .before .before .before .before .before .before .before .before .before .before .before .before .before .before .before .before .before .lowest .ensures .1 .has) (c .before .before .before .before .before .before .before .before .before .before .before .before .before .before .before .before .before .before .before .before .before .less .ensures))
 
-strike-free-loop-less-3 : (t : ℕ) → strike-free-lts.Need-loop-less-3 (strike-free-calls t) (strike-free-at t) strike-free.Post strike-free-Inv-loop
-    strike-free-μ-loop
-strike-free-loop-less-3 t c =
-    omega (
-      arith,
-      c .before .before .before .before .before .before .before .before .before .before .before .before .before .before .before .before .before
-          .before .before .before .before .loop-test .taken,
-    )
-
-strike-free-loop-again-3 : (t : ℕ) → strike-free-lts.Need-loop-again-3 (strike-free-calls t) (strike-free-at t) strike-free.Post strike-free-Inv-loop
-    strike-free-μ-loop
-strike-free-loop-again-3 t c =
-    let loop = c .before .before .before .before .before .before .before .before .before .before .before .before .before .before .before .before
-    .before .before .before .before .before .before .loop in
-    let args = c .before .before .before .before .before .before .before .before .before .before .before .before .before .before .before .before
-    .before .before .before .before .before .before .before .before .before .before .args in
-    let done = loop .inv .done in
-    let free = free-yes _ _ {r = c .before .before .before .before .before .before .before .before .before .before .before .before .before .before
-    .before .before .before .before .before .is-free .result} (not-false _ (c .before .before .before .before .before .before .before .before .before
-    .before .before .before .before .before .before .before .before .before .if1 .left)) (c .before .before .before .before .before .before .before
-    .before .before .before .before .before .before .before .before .before .before .before .before .is-free .ensures) in
-    let asks = free-concerned false (done .moved .within) (loop .slot) (args .v) (free .0) (free .1) in
-    let removed = thinned-made _ _ _ _ _ (loop .h) _ _ _ _ _ _ _ (c .before .before .before .before .before .before .before .before .before .thin
-    .ensures) (c .before .before .if3 .left) in
+strike-free-loop-again-4 : (t : ℕ) → strike-free-lts.Need-loop-again-4 (strike-free-calls t) (strike-free-at t) strike-free.Post strike-free-Inv-loop strike-free-μ-loop
+strike-free-loop-again-4 t c =
+    let removed = thinned-made _ _ _ _ _ (c .before .before .before .before .before .before .before .before .before .before .before .before .before .before .before .before .before .before .before .before .before .before .before .before .before .loop .h) _ _ _ _ _ _ _ (c .before .before .before .before .before .before .before .before .before .thin .ensures) (c .before .before .if4 .left) in
+    let done = c .before .before .before .before .before .before .before .before .before .before .before .before .before .before .before .before .before .before .before .before .before .before .before .before .before .loop .inv .done in
+    let args = c .before .before .before .before .before .before .before .before .before .before .before .before .before .before .before .before .before .before .before .before .before .before .before .before .before .before .before .before .before .before .before .args in
+    let slot = 16 * c .before .before .before .before .before .before .before .before .before .before .before .before .before .before .before .before .before .before .before .before .before .before .before .before .before .loop .b + c .before .before .before .before .before .before .before .before .before .before .before .before .before .before .before .before .before .before .before .before .before .before .lowest .result in
+    let free = free-yes _ _ {r = c .before .before .before .before .before .before .before .before .before .before .before .before .before .before .before .before .before .before .before .is-free .result} (not-false _ (c .before .before .before .before .before .before .before .before .before .before .before .before .before .before .before .before .before .before .if2 .left)) (c .before .before .before .before .before .before .before .before .before .before .before .before .before .before .before .before .before .before .before .is-free .ensures) in
+    let asks = free-concerned false (done .moved .within) slot (args .v) (free .0) (free .1) in
     record {
-      done = filtered-more done (thin-quiet removed (c .if4 .taken))
-          (λ N cut. cut .each (loop .slot) (c .before .before .before .before .before .before .before .before .before .before .before .before .before
-          .before .before .before .before .before .before .before .before .loop-test .taken) asks)
-          (λ live. settled-cut false (args .v) (loop .slot) (removed .moved .within));
+      done =
+          filtered-more done (thin-quiet removed (c .if5 .taken)) (λ N cut. cut .each slot (c .before .before .before .before .before .before .before .before .before .before .before .before .before .before .before .before .before .before .before .before .before .before .before .before .before .loop .inv .left .before (c .before .before .before .before .before .before .before .before .before .before .before .before .before .before .before .before .before .before .before .before .before .before .lowest .result) (c .before .before .before .before .before .before .before .before .before .before .before .before .before .before .before .before .before .before .before .before .before .before .lowest .ensures .1 .has)) asks)
+          (λ live swept cut. swept-cut false (c .before .before .before .before .before .before .before .before .before .before .before .before .before .before .before .before .before .before .before .before .before .before .lowest .result) (c .before .before .before .before .before .before .before .before .before .before .before .before .before .before .before .before .before .before .before .before .before .less .ensures) refl (removed .moved .within) cut swept);
+      left = left-next (c .before .before .before .before .before .before .before .before .before .before .before .before .before .before .before .before .before .before .before .before .before .before .before .before .before .loop .inv .left) (c .before .before .before .before .before .before .before .before .before .before .before .before .before .before .before .before .before .before .before .before .before .before .lowest .result) (c .before .before .before .before .before .before .before .before .before .before .before .before .before .before .before .before .before .before .before .before .before .before .lowest .ensures .1 .has) (c .before .before .before .before .before .before .before .before .before .before .before .before .before .before .before .before .before .before .before .before .before .less .ensures);
     }
 
-strike-free-fix-free-requires : (t : ℕ) → strike-free-lts.Need-fix-free-requires (strike-free-calls t) (strike-free-at t) strike-free.Post
-    strike-free-Inv-loop strike-free-μ-loop
+strike-free-fix-free-requires : (t : ℕ) → strike-free-lts.Need-fix-free-requires (strike-free-calls t) (strike-free-at t) strike-free.Post strike-free-Inv-loop strike-free-μ-loop
 strike-free-fix-free-requires t c κs =
-    let loop = c .before .before .before .before .before .before .before .before .before .before .before .before .before .before .before .before
-    .before .before .before .before .before .before .before .before .before .loop in
-    let done = loop .inv .done in
-    let pre = c .before .before .before .before .before .before .before .before .before .before .before .before .before .before .before .before
-    .before .before .before .before .before .before .before .before .before .before .before .before .before .pre in
-    let removed = thinned-made _ _ _ _ _ (loop .h) _ _ _ _ _ _ _ (c .before .before .before .before .before .before .before .before .before .before
-    .before .before .thin .ensures) (c .before .before .before .before .before .if3 .left) in (
+    let done = c .before .before .before .before .before .before .before .before .before .before .before .before .before .before .before .before .before .before .before .before .before .before .before .before .before .before .before .before .loop .inv .done in
+    let pre = c .before .before .before .before .before .before .before .before .before .before .before .before .before .before .before .before .before .before .before .before .before .before .before .before .before .before .before .before .before .before .before .before .before .before .pre in
+    let removed = thinned-made _ _ _ _ _ (c .before .before .before .before .before .before .before .before .before .before .before .before .before .before .before .before .before .before .before .before .before .before .before .before .before .before .before .before .loop .h) _ _ _ _ _ _ _ (c .before .before .before .before .before .before .before .before .before .before .before .before .thin .ensures) (c .before .before .before .before .before .if4 .left) in (
       omega (arith, removed .moved .height, total-less (done .moved .within), pre .0),
       record {
         world = world-moved (world-moved (pre .1 .world) (done .moved)) (removed .moved);
@@ -1044,146 +1023,82 @@ strike-free-fix-free-requires t c κs =
       },
     )
 
-strike-free-enum-known-x-3 : (t : ℕ) → strike-free-lts.Need-enum-known-x-3 (strike-free-calls t) (strike-free-at t) strike-free.Post
-    strike-free-Inv-loop strike-free-μ-loop
-strike-free-enum-known-x-3 t c = search needs
+strike-free-enum-known-x-3 : (t : ℕ) → strike-free-lts.Need-enum-known-x-3 (strike-free-calls t) (strike-free-at t) strike-free.Post strike-free-Inv-loop strike-free-μ-loop
+strike-free-enum-known-x-3 t c =
+    search needs
 
-strike-free-enum-known-x-4 : (t : ℕ) → strike-free-lts.Need-enum-known-x-4 (strike-free-calls t) (strike-free-at t) strike-free.Post
-    strike-free-Inv-loop strike-free-μ-loop
-strike-free-enum-known-x-4 t c = search needs
+strike-free-loop-less-5 : (t : ℕ) → strike-free-lts.Need-loop-less-5 (strike-free-calls t) (strike-free-at t) strike-free.Post strike-free-Inv-loop strike-free-μ-loop
+strike-free-loop-less-5 t c =
+    omega (arith, left-less (c .before .before .before .before .before .before .before .before .before .before .before .before .before .before .before .before .before .before .before .before .before .before .before .before .before .before .before .before .before .before .before .before .before .before .before .before .before .before .loop .inv .left) (c .before .before .before .before .before .before .before .before .before .before .before .before .before .before .before .before .before .before .before .before .before .before .before .before .before .before .before .before .before .before .before .before .before .before .before .lowest .result) (c .before .before .before .before .before .before .before .before .before .before .before .before .before .before .before .before .before .before .before .before .before .before .before .before .before .before .before .before .before .before .before .before .before .before .before .lowest .ensures .1 .has) (c .before .before .before .before .before .before .before .before .before .before .before .before .before .before .before .before .before .before .before .before .before .before .before .before .before .before .before .before .before .before .before .before .before .before .less .ensures))
 
-strike-free-returns-3 : (t : ℕ) → strike-free-lts.Need-returns-3 (strike-free-calls t) (strike-free-at t) strike-free.Post strike-free-Inv-loop
-    strike-free-μ-loop
-strike-free-returns-3 t c =
-    let loop = c .before .before .before .before .before .before .before .before .before .before .before .before .before .before .before .before
-    .before .before .before .before .before .before .before .before .before .before .before .before .before .before .before .before .before .before
-    .before .loop in
-    let args = c .before .before .before .before .before .before .before .before .before .before .before .before .before .before .before .before
-    .before .before .before .before .before .before .before .before .before .before .before .before .before .before .before .before .before .before
-    .before .before .before .before .before .args in
-    let done = loop .inv .done in
-    let free = free-yes _ _ {r = c .before .before .before .before .before .before .before .before .before .before .before .before .before .before
-    .before .before .before .before .before .before .before .before .before .before .before .before .before .before .before .before .before .before
-    .is-free .result}
-    (not-false _ (c .before .before .before .before .before .before .before .before .before .before .before .before .before .before .before .before
-    .before .before .before .before .before .before .before .before .before .before .before .before .before .before .before .if1 .left)) (c .before
-    .before .before .before .before .before .before .before .before .before .before .before .before .before .before .before .before .before .before
-    .before .before .before .before .before .before .before .before .before .before .before .before .before .is-free .ensures) in
-    let asks = free-concerned false (done .moved .within) (loop .slot) (args .v) (free .0) (free .1) in
-    let removed = thinned-made _ _ _ _ _ (loop .h) _ _ _ _ _ _ _ (c .before .before .before .before .before .before .before .before .before .before
-    .before .before .before .before .before .before .before .before .before .before .before .before .thin .ensures) (c .before .before .before
-    .before .before .before .before .before .before .before .before .before .before .before .before .if3 .left) in
-    filtered-more done (filtered-at (c .before .x4 .given .1) (thin-followed removed (c .before .before .before .before .before .before .before
-    .before .before .fix-free .ensures))) (λ N cut. cut .each (loop .slot) (c .before .before .before .before .before .before .before .before .before
-    .before .before .before .before .before .before .before .before .before .before .before .before .before .before .before .before .before .before
-    .before .before .before .before .before .before .before .loop-test .taken) asks) (λ no. absurd no)
-
-strike-free-add-slot-4 : (t : ℕ) → strike-free-lts.Need-add-slot-4 (strike-free-calls t) (strike-free-at t) strike-free.Post strike-free-Inv-loop
-    strike-free-μ-loop
-strike-free-add-slot-4 t c =
-    omega (
-      arith,
-      c .before .before .before .before .before .before .before .before .before .before .before .before .before .before .before .before .before
-          .before .before .before .before .before .before .before .before .before .before .before .before .before .before .before .before .before
-          .loop-test
-          .taken,
-      c .before .before .before .before .before .before .before .before .before .before .before .before .before .before .before .before .before
-          .before .before .before .before .before .before .before .before .before .before .before .before .before .before .before .before .before .before
-          .before .before .before .before .fits .end,
-    )
-
-strike-free-loop-less-4 : (t : ℕ) → strike-free-lts.Need-loop-less-4 (strike-free-calls t) (strike-free-at t) strike-free.Post strike-free-Inv-loop
-    strike-free-μ-loop
-strike-free-loop-less-4 t c =
-    omega (
-      arith,
-      c .before .before .before .before .before .before .before .before .before .before .before .before .before .before .before .before .before
-          .before .before .before .before .before .before .before .before .before .before .before .before .before .before .before .before .before
-          .loop-test .taken,
-    )
-
-strike-free-loop-again-4 : (t : ℕ) → strike-free-lts.Need-loop-again-4 (strike-free-calls t) (strike-free-at t) strike-free.Post strike-free-Inv-loop
-    strike-free-μ-loop
-strike-free-loop-again-4 t c =
-    let loop = c .before .before .before .before .before .before .before .before .before .before .before .before .before .before .before .before
-    .before .before .before .before .before .before .before .before .before .before .before .before .before .before .before .before .before .before
-    .before .loop in
-    let args = c .before .before .before .before .before .before .before .before .before .before .before .before .before .before .before .before
-    .before .before .before .before .before .before .before .before .before .before .before .before .before .before .before .before .before .before
-    .before .before .before .before .before .args in
-    let done = loop .inv .done in
-    let free = free-yes _ _ {r = c .before .before .before .before .before .before .before .before .before .before .before .before .before .before
-    .before .before .before .before .before .before .before .before .before .before .before .before .before .before .before .before .before .before
-    .is-free .result}
-    (not-false _ (c .before .before .before .before .before .before .before .before .before .before .before .before .before .before .before .before
-    .before .before .before .before .before .before .before .before .before .before .before .before .before .before .before .if1 .left)) (c .before
-    .before .before .before .before .before .before .before .before .before .before .before .before .before .before .before .before .before .before
-    .before .before .before .before .before .before .before .before .before .before .before .before .before .is-free .ensures) in
-    let asks = free-concerned false (done .moved .within) (loop .slot) (args .v) (free .0) (free .1) in
-    let removed = thinned-made _ _ _ _ _ (loop .h) _ _ _ _ _ _ _ (c .before .before .before .before .before .before .before .before .before .before
-    .before .before .before .before .before .before .before .before .before .before .before .before .thin .ensures) (c .before .before .before
-    .before .before .before .before .before .before .before .before .before .before .before .before .if3 .left) in
-    let followed = filtered-at (c .before .x3 .given .1) (thin-followed removed (c .before .before .before .before .before .before .before .before
-    .before .fix-free .ensures)) in
+strike-free-loop-again-5 : (t : ℕ) → strike-free-lts.Need-loop-again-5 (strike-free-calls t) (strike-free-at t) strike-free.Post strike-free-Inv-loop strike-free-μ-loop
+strike-free-loop-again-5 t c =
+    let removed = thinned-made _ _ _ _ _ (c .before .before .before .before .before .before .before .before .before .before .before .before .before .before .before .before .before .before .before .before .before .before .before .before .before .before .before .before .before .before .before .before .before .before .before .before .before .before .loop .h) _ _ _ _ _ _ _ (c .before .before .before .before .before .before .before .before .before .before .before .before .before .before .before .before .before .before .before .before .before .before .thin .ensures) (c .before .before .before .before .before .before .before .before .before .before .before .before .before .before .before .if4 .left) in
+    let followed = filtered-at (c .before .x3 .given .1) (thin-followed removed (c .before .before .before .before .before .before .before .before .before .fix-free .ensures)) in
+    let done = c .before .before .before .before .before .before .before .before .before .before .before .before .before .before .before .before .before .before .before .before .before .before .before .before .before .before .before .before .before .before .before .before .before .before .before .before .before .before .loop .inv .done in
+    let args = c .before .before .before .before .before .before .before .before .before .before .before .before .before .before .before .before .before .before .before .before .before .before .before .before .before .before .before .before .before .before .before .before .before .before .before .before .before .before .before .before .before .before .before .before .args in
+    let slot = 16 * c .before .before .before .before .before .before .before .before .before .before .before .before .before .before .before .before .before .before .before .before .before .before .before .before .before .before .before .before .before .before .before .before .before .before .before .before .before .before .loop .b + c .before .before .before .before .before .before .before .before .before .before .before .before .before .before .before .before .before .before .before .before .before .before .before .before .before .before .before .before .before .before .before .before .before .before .before .lowest .result in
+    let free = free-yes _ _ {r = c .before .before .before .before .before .before .before .before .before .before .before .before .before .before .before .before .before .before .before .before .before .before .before .before .before .before .before .before .before .before .before .before .is-free .result} (not-false _ (c .before .before .before .before .before .before .before .before .before .before .before .before .before .before .before .before .before .before .before .before .before .before .before .before .before .before .before .before .before .before .before .if2 .left)) (c .before .before .before .before .before .before .before .before .before .before .before .before .before .before .before .before .before .before .before .before .before .before .before .before .before .before .before .before .before .before .before .before .is-free .ensures) in
+    let asks = free-concerned false (done .moved .within) slot (args .v) (free .0) (free .1) in
     record {
-      done = filtered-more done (followed)
-          (λ N cut. cut .each (loop .slot) (c .before .before .before .before .before .before .before .before .before .before .before .before .before
-          .before .before .before .before .before .before .before .before .before .before .before .before .before .before .before .before .before
-          .before .before .before .before .loop-test .taken) asks)
-          (λ live. settled-cut false (args .v) (loop .slot) (followed .moved .within));
+      done =
+          filtered-more done (followed) (λ N cut. cut .each slot (c .before .before .before .before .before .before .before .before .before .before .before .before .before .before .before .before .before .before .before .before .before .before .before .before .before .before .before .before .before .before .before .before .before .before .before .before .before .before .loop .inv .left .before (c .before .before .before .before .before .before .before .before .before .before .before .before .before .before .before .before .before .before .before .before .before .before .before .before .before .before .before .before .before .before .before .before .before .before .before .lowest .result) (c .before .before .before .before .before .before .before .before .before .before .before .before .before .before .before .before .before .before .before .before .before .before .before .before .before .before .before .before .before .before .before .before .before .before .before .lowest .ensures .1 .has)) asks)
+          (λ live swept cut. swept-cut false (c .before .before .before .before .before .before .before .before .before .before .before .before .before .before .before .before .before .before .before .before .before .before .before .before .before .before .before .before .before .before .before .before .before .before .before .lowest .result) (c .before .before .before .before .before .before .before .before .before .before .before .before .before .before .before .before .before .before .before .before .before .before .before .before .before .before .before .before .before .before .before .before .before .before .less .ensures) refl (followed .moved .within) cut swept);
+      left = left-next (c .before .before .before .before .before .before .before .before .before .before .before .before .before .before .before .before .before .before .before .before .before .before .before .before .before .before .before .before .before .before .before .before .before .before .before .before .before .before .loop .inv .left) (c .before .before .before .before .before .before .before .before .before .before .before .before .before .before .before .before .before .before .before .before .before .before .before .before .before .before .before .before .before .before .before .before .before .before .before .lowest .result) (c .before .before .before .before .before .before .before .before .before .before .before .before .before .before .before .before .before .before .before .before .before .before .before .before .before .before .before .before .before .before .before .before .before .before .before .lowest .ensures .1 .has) (c .before .before .before .before .before .before .before .before .before .before .before .before .before .before .before .before .before .before .before .before .before .before .before .before .before .before .before .before .before .before .before .before .before .before .less .ensures);
     }
 
-strike-free-returns-4 : (t : ℕ) → strike-free-lts.Need-returns-4 (strike-free-calls t) (strike-free-at t) strike-free.Post strike-free-Inv-loop
-    strike-free-μ-loop
-strike-free-returns-4 t c =
-    filtered-goal (c .before .loop .inv .done) (λ live settled. settled-from-before (c .loop-test .left) settled)
+strike-free-enum-known-x-4 : (t : ℕ) → strike-free-lts.Need-enum-known-x-4 (strike-free-calls t) (strike-free-at t) strike-free.Post strike-free-Inv-loop strike-free-μ-loop
+strike-free-enum-known-x-4 t c =
+    search needs
 
-strike-free-same-length : (t : ℕ) → strike-free-lts.Need-same-length (strike-free-calls t) (strike-free-at t) strike-free.Post strike-free-Inv-loop
-    strike-free-μ-loop
+strike-free-returns-3 : (t : ℕ) → strike-free-lts.Need-returns-3 (strike-free-calls t) (strike-free-at t) strike-free.Post strike-free-Inv-loop strike-free-μ-loop
+strike-free-returns-3 t c =
+    let removed = thinned-made _ _ _ _ _ (c .before .before .before .before .before .before .before .before .before .before .before .before .before .before .before .before .before .before .before .before .before .before .before .before .before .before .before .before .before .before .before .before .before .before .before .before .before .before .loop .h) _ _ _ _ _ _ _ (c .before .before .before .before .before .before .before .before .before .before .before .before .before .before .before .before .before .before .before .before .before .before .thin .ensures) (c .before .before .before .before .before .before .before .before .before .before .before .before .before .before .before .if4 .left) in
+    let done = c .before .before .before .before .before .before .before .before .before .before .before .before .before .before .before .before .before .before .before .before .before .before .before .before .before .before .before .before .before .before .before .before .before .before .before .before .before .before .loop .inv .done in
+    let args = c .before .before .before .before .before .before .before .before .before .before .before .before .before .before .before .before .before .before .before .before .before .before .before .before .before .before .before .before .before .before .before .before .before .before .before .before .before .before .before .before .before .before .before .before .args in
+    let slot = 16 * c .before .before .before .before .before .before .before .before .before .before .before .before .before .before .before .before .before .before .before .before .before .before .before .before .before .before .before .before .before .before .before .before .before .before .before .before .before .before .loop .b + c .before .before .before .before .before .before .before .before .before .before .before .before .before .before .before .before .before .before .before .before .before .before .before .before .before .before .before .before .before .before .before .before .before .before .before .lowest .result in
+    let free = free-yes _ _ {r = c .before .before .before .before .before .before .before .before .before .before .before .before .before .before .before .before .before .before .before .before .before .before .before .before .before .before .before .before .before .before .before .before .is-free .result} (not-false _ (c .before .before .before .before .before .before .before .before .before .before .before .before .before .before .before .before .before .before .before .before .before .before .before .before .before .before .before .before .before .before .before .if2 .left)) (c .before .before .before .before .before .before .before .before .before .before .before .before .before .before .before .before .before .before .before .before .before .before .before .before .before .before .before .before .before .before .before .before .is-free .ensures) in
+    let asks = free-concerned false (done .moved .within) slot (args .v) (free .0) (free .1) in
+    filtered-more done (filtered-at (c .before .x4 .given .1) (thin-followed removed (c .before .before .before .before .before .before .before .before .before .fix-free .ensures))) (λ N cut. cut .each slot (c .before .before .before .before .before .before .before .before .before .before .before .before .before .before .before .before .before .before .before .before .before .before .before .before .before .before .before .before .before .before .before .before .before .before .before .before .before .before .loop .inv .left .before (c .before .before .before .before .before .before .before .before .before .before .before .before .before .before .before .before .before .before .before .before .before .before .before .before .before .before .before .before .before .before .before .before .before .before .before .lowest .result) (c .before .before .before .before .before .before .before .before .before .before .before .before .before .before .before .before .before .before .before .before .before .before .before .before .before .before .before .before .before .before .before .before .before .before .before .lowest .ensures .1 .has)) asks) (λ no. absurd no)
+
+strike-free-returns-4 : (t : ℕ) → strike-free-lts.Need-returns-4 (strike-free-calls t) (strike-free-at t) strike-free.Post strike-free-Inv-loop strike-free-μ-loop
+strike-free-returns-4 t c =
+    filtered-goal (c .before .loop .inv .done) (λ live swept. swept-end (c .loop-test .left) swept)
+
+strike-free-same-length : (t : ℕ) → strike-free-lts.Need-same-length (strike-free-calls t) (strike-free-at t) strike-free.Post strike-free-Inv-loop strike-free-μ-loop
 strike-free-same-length t c = strike-free-returns t c .moved .within .len
 
-strike-free-same-length-2 : (t : ℕ) → strike-free-lts.Need-same-length-2 (strike-free-calls t) (strike-free-at t) strike-free.Post
-    strike-free-Inv-loop strike-free-μ-loop
+strike-free-same-length-2 : (t : ℕ) → strike-free-lts.Need-same-length-2 (strike-free-calls t) (strike-free-at t) strike-free.Post strike-free-Inv-loop strike-free-μ-loop
 strike-free-same-length-2 t c = strike-free-returns t c .moved .cells-size
 
-strike-free-same-length-3 : (t : ℕ) → strike-free-lts.Need-same-length-3 (strike-free-calls t) (strike-free-at t) strike-free.Post
-    strike-free-Inv-loop strike-free-μ-loop
+strike-free-same-length-3 : (t : ℕ) → strike-free-lts.Need-same-length-3 (strike-free-calls t) (strike-free-at t) strike-free.Post strike-free-Inv-loop strike-free-μ-loop
 strike-free-same-length-3 t c = strike-free-returns t c .moved .trailed .size
 
-strike-free-same-length-4 : (t : ℕ) → strike-free-lts.Need-same-length-4 (strike-free-calls t) (strike-free-at t) strike-free.Post
-    strike-free-Inv-loop strike-free-μ-loop
+strike-free-same-length-4 : (t : ℕ) → strike-free-lts.Need-same-length-4 (strike-free-calls t) (strike-free-at t) strike-free.Post strike-free-Inv-loop strike-free-μ-loop
 strike-free-same-length-4 t c = strike-free-returns-2 t c .moved .within .len
 
-strike-free-same-length-5 : (t : ℕ) → strike-free-lts.Need-same-length-5 (strike-free-calls t) (strike-free-at t) strike-free.Post
-    strike-free-Inv-loop strike-free-μ-loop
+strike-free-same-length-5 : (t : ℕ) → strike-free-lts.Need-same-length-5 (strike-free-calls t) (strike-free-at t) strike-free.Post strike-free-Inv-loop strike-free-μ-loop
 strike-free-same-length-5 t c = strike-free-returns-2 t c .moved .cells-size
 
-strike-free-same-length-6 : (t : ℕ) → strike-free-lts.Need-same-length-6 (strike-free-calls t) (strike-free-at t) strike-free.Post
-    strike-free-Inv-loop strike-free-μ-loop
+strike-free-same-length-6 : (t : ℕ) → strike-free-lts.Need-same-length-6 (strike-free-calls t) (strike-free-at t) strike-free.Post strike-free-Inv-loop strike-free-μ-loop
 strike-free-same-length-6 t c = strike-free-returns-2 t c .moved .trailed .size
 
-strike-free-same-length-7 : (t : ℕ) → strike-free-lts.Need-same-length-7 (strike-free-calls t) (strike-free-at t) strike-free.Post
-    strike-free-Inv-loop strike-free-μ-loop
+strike-free-same-length-7 : (t : ℕ) → strike-free-lts.Need-same-length-7 (strike-free-calls t) (strike-free-at t) strike-free.Post strike-free-Inv-loop strike-free-μ-loop
 strike-free-same-length-7 t c = strike-free-returns-3 t c .moved .within .len
 
-strike-free-same-length-8 : (t : ℕ) → strike-free-lts.Need-same-length-8 (strike-free-calls t) (strike-free-at t) strike-free.Post
-    strike-free-Inv-loop strike-free-μ-loop
+strike-free-same-length-8 : (t : ℕ) → strike-free-lts.Need-same-length-8 (strike-free-calls t) (strike-free-at t) strike-free.Post strike-free-Inv-loop strike-free-μ-loop
 strike-free-same-length-8 t c = strike-free-returns-3 t c .moved .cells-size
 
-strike-free-same-length-9 : (t : ℕ) → strike-free-lts.Need-same-length-9 (strike-free-calls t) (strike-free-at t) strike-free.Post
-    strike-free-Inv-loop strike-free-μ-loop
+strike-free-same-length-9 : (t : ℕ) → strike-free-lts.Need-same-length-9 (strike-free-calls t) (strike-free-at t) strike-free.Post strike-free-Inv-loop strike-free-μ-loop
 strike-free-same-length-9 t c = strike-free-returns-3 t c .moved .trailed .size
 
-strike-free-same-length-10 : (t : ℕ) → strike-free-lts.Need-same-length-10 (strike-free-calls t) (strike-free-at t) strike-free.Post
-    strike-free-Inv-loop strike-free-μ-loop
+strike-free-same-length-10 : (t : ℕ) → strike-free-lts.Need-same-length-10 (strike-free-calls t) (strike-free-at t) strike-free.Post strike-free-Inv-loop strike-free-μ-loop
 strike-free-same-length-10 t c = strike-free-returns-4 t c .moved .within .len
 
-strike-free-same-length-11 : (t : ℕ) → strike-free-lts.Need-same-length-11 (strike-free-calls t) (strike-free-at t) strike-free.Post
-    strike-free-Inv-loop strike-free-μ-loop
+strike-free-same-length-11 : (t : ℕ) → strike-free-lts.Need-same-length-11 (strike-free-calls t) (strike-free-at t) strike-free.Post strike-free-Inv-loop strike-free-μ-loop
 strike-free-same-length-11 t c = strike-free-returns-4 t c .moved .cells-size
 
-strike-free-same-length-12 : (t : ℕ) → strike-free-lts.Need-same-length-12 (strike-free-calls t) (strike-free-at t) strike-free.Post
-    strike-free-Inv-loop strike-free-μ-loop
+strike-free-same-length-12 : (t : ℕ) → strike-free-lts.Need-same-length-12 (strike-free-calls t) (strike-free-at t) strike-free.Post strike-free-Inv-loop strike-free-μ-loop
 strike-free-same-length-12 t c = strike-free-returns-4 t c .moved .trailed .size
 
 strike-other-has : (t : ℕ) (c : strike-other-lts.Then1 (strike-other-calls t) (strike-other-at t) strike-other.Post) → HasAt (c .before .before
@@ -1259,11 +1174,7 @@ pub +fix+fix-free+follow+strike+strike-free+strike-other-spec : {M : Type 1} →
     (fix-enum-known-x-2 t) (fix-same-length-4 t) (fix-same-length-5 t) (fix-same-length-6 t) (fix-returns-2 t) (fix-other-values-requires-2 t)
     (fix-loop-less-2 t) (fix-loop-again-2 t) (fix-strike-other-requires t) (fix-same-length-7 t) (fix-same-length-8 t) (fix-same-length-9 t)
     (fix-returns-3 t))
-    (λ t. fix-free-lts.spec (fix-free-calls t) (fix-free-at t) fix-free.Post fix-free-Inv-loop fix-free-μ-loop (fix-free-loop-holds t)
-    (fix-free-is-free-requires t) (fix-free-add-s t) (fix-free-loop-less t) (fix-free-loop-again t) (fix-free-fix-requires t) (fix-free-enum-known-x
-    t) (fix-free-enum-known-x-2 t) (fix-free-same-length t) (fix-free-same-length-2 t) (fix-free-same-length-3 t) (fix-free-returns t)
-    (fix-free-add-s-2 t) (fix-free-loop-less-2 t) (fix-free-loop-again-2 t) (fix-free-same-length-4 t) (fix-free-same-length-5 t)
-    (fix-free-same-length-6 t) (fix-free-returns-2 t))
+    (λ t. fix-free-lts.spec (fix-free-calls t) (fix-free-at t) fix-free.Post fix-free-Inv-loop fix-free-μ-loop (fix-free-open-block-requires t) (fix-free-loop-holds t) (fix-free-add-loop t) (fix-free-add-b t) (fix-free-open-block-requires-2 t) (fix-free-loop-less t) (fix-free-loop-again t) (fix-free-lowest-requires t) (fix-free-less-requires t) (fix-free-mul-s t) (fix-free-cast-s t) (fix-free-add-s t) (fix-free-is-free-requires t) (fix-free-loop-less-2 t) (fix-free-loop-again-2 t) (fix-free-fix-requires t) (fix-free-enum-known-x t) (fix-free-loop-less-3 t) (fix-free-loop-again-3 t) (fix-free-enum-known-x-2 t) (fix-free-same-length t) (fix-free-same-length-2 t) (fix-free-same-length-3 t) (fix-free-returns t) (fix-free-same-length-4 t) (fix-free-same-length-5 t) (fix-free-same-length-6 t) (fix-free-returns-2 t))
     (λ t. follow-lts.spec (follow-calls t) (follow-at t) follow.Post (follow-strike-free-requires t) (follow-same-length t) (follow-same-length-2 t)
     (follow-same-length-3 t) (follow-returns t) (follow-fix-free-requires t) (follow-enum-known-p t) (follow-same-length-4 t) (follow-same-length-5
     t) (follow-same-length-6 t) (follow-returns-2 t) (follow-strike-free-requires-2 t) (follow-same-length-7 t) (follow-same-length-8 t)
@@ -1274,16 +1185,7 @@ pub +fix+fix-free+follow+strike+strike-free+strike-other-spec : {M : Type 1} →
     (strike-same-length-4 t) (strike-returns-2 t) (strike-add-t27 t) (strike-same-length-5 t) (strike-same-length-6 t) (strike-same-length-7 t)
     (strike-returns-3 t) (strike-add-follow t) (strike-follow-requires t) (strike-same-length-8 t) (strike-same-length-9 t) (strike-same-length-10 t)
     (strike-returns-4 t))
-    (λ t. strike-free-lts.spec (strike-free-calls t) (strike-free-at t) strike-free.Post strike-free-Inv-loop strike-free-μ-loop
-    (strike-free-loop-holds t) (strike-free-is-free-requires t) (strike-free-add-slot t) (strike-free-loop-less t) (strike-free-loop-again t)
-    (strike-free-is-wide-requires t) (strike-free-strike-requires t) (strike-free-enum-known-x t) (strike-free-enum-known-x-2 t)
-    (strike-free-same-length t) (strike-free-same-length-2 t) (strike-free-same-length-3 t) (strike-free-returns t) (strike-free-add-slot-2 t)
-    (strike-free-loop-less-2 t) (strike-free-loop-again-2 t) (strike-free-without-value-requires t) (strike-free-thin-requires t)
-    (strike-free-same-length-4 t) (strike-free-same-length-5 t) (strike-free-same-length-6 t) (strike-free-returns-2 t) (strike-free-add-h t)
-    (strike-free-add-slot-3 t) (strike-free-loop-less-3 t) (strike-free-loop-again-3 t) (strike-free-fix-free-requires t) (strike-free-enum-known-x-3
-    t) (strike-free-enum-known-x-4 t) (strike-free-same-length-7 t) (strike-free-same-length-8 t) (strike-free-same-length-9 t)
-    (strike-free-returns-3 t) (strike-free-add-slot-4 t) (strike-free-loop-less-4 t) (strike-free-loop-again-4 t) (strike-free-same-length-10 t)
-    (strike-free-same-length-11 t) (strike-free-same-length-12 t) (strike-free-returns-4 t))
+    (λ t. strike-free-lts.spec (strike-free-calls t) (strike-free-at t) strike-free.Post strike-free-Inv-loop strike-free-μ-loop (strike-free-open-block-requires t) (strike-free-loop-holds t) (strike-free-add-loop t) (strike-free-add-b t) (strike-free-open-block-requires-2 t) (strike-free-loop-less t) (strike-free-loop-again t) (strike-free-lowest-requires t) (strike-free-less-requires t) (strike-free-mul-slot t) (strike-free-cast-slot t) (strike-free-add-slot t) (strike-free-is-free-requires t) (strike-free-loop-less-2 t) (strike-free-loop-again-2 t) (strike-free-is-wide-requires t) (strike-free-strike-requires t) (strike-free-enum-known-x t) (strike-free-enum-known-x-2 t) (strike-free-same-length t) (strike-free-same-length-2 t) (strike-free-same-length-3 t) (strike-free-returns t) (strike-free-loop-less-3 t) (strike-free-loop-again-3 t) (strike-free-without-value-requires t) (strike-free-thin-requires t) (strike-free-same-length-4 t) (strike-free-same-length-5 t) (strike-free-same-length-6 t) (strike-free-returns-2 t) (strike-free-add-h t) (strike-free-loop-less-4 t) (strike-free-loop-again-4 t) (strike-free-fix-free-requires t) (strike-free-enum-known-x-3 t) (strike-free-loop-less-5 t) (strike-free-loop-again-5 t) (strike-free-enum-known-x-4 t) (strike-free-same-length-7 t) (strike-free-same-length-8 t) (strike-free-same-length-9 t) (strike-free-returns-3 t) (strike-free-same-length-10 t) (strike-free-same-length-11 t) (strike-free-same-length-12 t) (strike-free-returns-4 t))
     λ t. strike-other-lts.spec (strike-other-calls t) (strike-other-at t) strike-other.Post (strike-other-lowest-requires t)
     (strike-other-strike-requires t) (strike-other-same-length t) (strike-other-same-length-2 t) (strike-other-same-length-3 t) (strike-other-returns
     t) (strike-other-has-value-requires t) (strike-other-same-length-4 t) (strike-other-returns-2 t) (strike-other-same-length-5 t)

@@ -5,8 +5,8 @@ use borrow.Author.Needs.{needs}
 use Rattle.strikes.proofs.open_block.Statement.{statement}
 use Rattle.strikes.proofs.open_block.Tie as tie
 
-mul-if1 : tie.Need-mul-if1
-mul-if1 c = search needs
+add-if1 : tie.Need-add-if1
+add-if1 c = search needs
 
 returns : tie.Need-returns
 returns c =
@@ -35,7 +35,7 @@ pub open-block-spec : {M : Type 1} → statement M
 open-block-spec =
     tie.close
     (tie.spec
-    mul-if1
+    add-if1
     returns
     word-requires
     mul-bits-from
