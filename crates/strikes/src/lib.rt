@@ -231,7 +231,7 @@ fn up_to(n: usize, t: usize) -> usize
     ensures { λ r. ⌜ r ≡ cond (ltb n t) 0 t ⌝ }
 {
     if n < t {
-        return 0;
+        return 0usize;
     }
     t
 }
