@@ -19,7 +19,7 @@ use Rattle.segments_model.proofs.LinksLaws.{next-after, gaps-first, end-gaps}
 use Rattle.segments_model.proofs.RaiseLaws.{reversal-none, reversal-less, reversal-join, reversal-spend}
 use Rattle.segments.specs.declared.Hit.{Hit}
 use Rattle.segments.specs.declared.Hit.the-variants.{Lowered, Still, Joined, Clash, Reached}
-use Rattle.segments.specs.Fell.{Quiets, Answer, Fell}
+use Rattle.segments.specs.Fell.{Quiets, Answer, Fell, Before, Leads}
 
 -- ---- Fell
 
@@ -50,11 +50,12 @@ module _ (n slot : ℕ) (l : List ℕ) where
             barred = free;
           }
 
-      module _ (last : getD l t 0 ≡ 0) {z p : ℕ} (z-is : z ≡ getD l 0 0) (latest : Latest z slot (gaps l) p) (l′ : List ℕ) where
+      module _ (last : getD l t 0 ≡ 0) {z p : ℕ} (z-is : z ≡ getD l 0 0) (before : Before n z slot l p) (l′ : List ℕ) where
         pub fell-join : (p ≡ z → ⊥) → l′ ≡ set (set l t (getD l p 0)) p (1024 + (t - p - 1)) → Fell n slot l l′ (Joined p)
         fell-join found-one stored =
-            let 0<p : 0 < p = omega (arith, found-one, latest .from) in
-            let prev = latest-end latest (omega (arith, found-one, latest .from)) in
+            let z<p : z < p = omega (arith, found-one, before .from) in
+            let 0<p : 0 < p = omega arith in
+            let prev = latest-end (before .found z<p) z<p in
             record {
               size = ap length stored ∙ simp length-set;
               inside = tt;
@@ -73,7 +74,7 @@ module _ (n slot : ℕ) (l : List ℕ) where
               inside = t≤n;
               answer = λ C f held.
                   rw stored
-                  (reached-spend slot held free slot≤n n<len found t≤n last (latest-none (held .cells) (rw first at latest) (none ∙ first)) refl);
+                  (reached-spend slot held free slot≤n n<len found t≤n last (latest-none (held .cells) (rw first at before .linked (held .linked)) (none ∙ first)) refl);
               reverses = rw (stored, z-is) (reversal-spend n slot l slot≤n free found t≤n n<len last);
               barred = (free, z-is);
             }

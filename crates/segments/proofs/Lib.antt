@@ -1,1 +1,2 @@
+pub mod BeforeLaws
 pub mod FellLaws

@@ -11,7 +11,7 @@ ghost use Rattle.segments_model.specs.Links.{gaps, nextOf};
 ghost use Rattle.segments_model.specs.Part.{part, over, Lent};
 ghost use Rattle.segments_model.specs.Raise.{lifted, parted, risen, Raisable};
 ghost use Rattle.segments_model.specs.Search.{Latest};
-ghost use Rattle.segments.specs.Fell.{Fell};
+ghost use Rattle.segments.specs.Fell.{Fell, Before, Leads};
 
 // What a fall of the slack meets. No corner loses its last slack: the gap of the right end t fell by one, no right end is after the slot, or the
 // right end p was joined. A corner has none to lose. Or t is the last corner that loses its last slack, and the spent corner was z.
@@ -48,7 +48,7 @@ pub fn fall(cells: &mut [u16], n: usize, slot: usize) -> Hit
         cells[t] = (d - 1) as u16;
         return Hit::Lowered(t);
     }
-    let p = latest_standing(cells, z, slot);
+    let p = previous_end(cells, n, z, slot, t);
     if p == z {
         spend(cells, t);
         return Hit::Reached(t, z);
@@ -139,6 +139,29 @@ fn found_at(at: usize, cell: usize) -> Found
     ensures { λ r. ⌜ (r .at ≡ at) × (r .cell ≡ cell) ⌝ }
 {
     Found { at, cell }
+}
+
+// The last right end after z up to the slot, or z, where t is the first one after the slot. Mostly the link after z leads to t, and there is none.
+fn previous_end(cells: &[u16], n: usize, z: usize, slot: usize, t: usize) -> usize
+    requires { ⌜ (z ≤ slot) × (slot < t) × (t ≤ n) × (n < length (now cells)) × (n < 1024) ⌝ }
+    ensures { λ r. ⌜ Before n z slot (now (cells .entry)) r ⌝ }
+{
+    if leads(cells, z + 1, t) {
+        return z;
+    }
+    latest_standing(cells, z, slot)
+}
+
+// Whether the cell at w is a link to t.
+fn leads(cells: &[u16], w: usize, t: usize) -> bool
+    requires { ⌜ (w < length (now cells)) × (w < 65536) ⌝ }
+    ensures { λ r. ⌜ Leads (getD (now (cells .entry)) w 0) w t r ⌝ }
+{
+    let c = wide(cells[w]);
+    if c < 1024 {
+        return false;
+    }
+    w + (c - 1023) == t
 }
 
 // The last right end after z up to the slot, or z.

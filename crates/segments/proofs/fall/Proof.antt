@@ -49,8 +49,10 @@ returns-3 c =
     let found = c .before .before .next-end .ensures in
     fell-less _ _ _ (omega (arith, c .before .before .before .before .before .before .before .before .pre .0)) (c .before .before .before .before .before .before .before .before .pre .1) (omega (arith, c .before .before .before .before .before .wide .ensures .0, c .before .before .before .before .if1 .left)) (found .0) (omega arith) _ _ (found .1 (omega arith)) (omega arith) refl
 
-latest-standing-requires : tie.Need-latest-standing-requires
-latest-standing-requires c κs = search needs
+previous-end-requires : tie.Need-previous-end-requires
+previous-end-requires c κs =
+    let after = next-after (omega (arith, c .before .before .before .before .before .before .before .before .before .pre .0)) (c .before .before .before .before .before .before .before .before .before .args .cells .now) (c .before .before .before .next-end .ensures .0) in
+    (omega arith, omega arith, omega arith, omega arith, omega arith)
 
 spend-requires : tie.Need-spend-requires
 spend-requires c κs = search needs
@@ -61,13 +63,14 @@ same-length-3 c = search needs
 returns-4 : tie.Need-returns-4
 returns-4 c =
     let found = c .before .before .before .before .before .before .before .before .before .next-end .ensures in
-    fell-spend _ _ _ (omega (arith, c .before .before .before .before .before .before .before .before .before .before .before .before .before .before .before .pre .0)) (c .before .before .before .before .before .before .before .before .before .before .before .before .before .before .before .pre .1) (omega (arith, c .before .before .before .before .before .before .before .before .before .before .before .before .wide .ensures .0, c .before .before .before .before .before .before .before .before .before .before .before .if1 .left)) (found .0) (omega arith) (omega (arith, found .1 (omega arith), c .before .before .before .before .before .before .before .if3 .left)) (c .before .before .before .before .before .before .before .before .before .before .before .before .wide .ensures .0) (c .before .before .before .before .before .latest-standing .ensures) _ (omega arith)
+    fell-spend _ _ _ (omega (arith, c .before .before .before .before .before .before .before .before .before .before .before .before .before .before .before .pre .0)) (c .before .before .before .before .before .before .before .before .before .before .before .before .before .before .before .pre .1) (omega (arith, c .before .before .before .before .before .before .before .before .before .before .before .before .wide .ensures .0, c .before .before .before .before .before .before .before .before .before .before .before .if1 .left)) (found .0) (omega arith) (omega (arith, found .1 (omega arith), c .before .before .before .before .before .before .before .if3 .left)) (c .before .before .before .before .before .before .before .before .before .before .before .before .wide .ensures .0) (c .before .before .before .before .before .previous-end .ensures) _ (omega arith)
     (c .before .before .spend .ensures)
 
 join-requires : tie.Need-join-requires
 join-requires c κs =
     let after = next-after (omega (arith, c .before .before .before .before .before .before .before .before .before .before .before .before .pre .0)) (c .before .before .before .before .before .before .before .before .before .before .before .before .args .cells .now) (c .before .before .before .before .before .before .next-end .ensures .0) in
-    omega (arith, after, c .before .before .latest-standing .ensures .before)
+    let before = c .before .before .previous-end .ensures in
+    omega (arith, after, (before .found (omega (arith, before .from))) .before)
 
 same-length-4 : tie.Need-same-length-4
 same-length-4 c = search needs
@@ -75,7 +78,7 @@ same-length-4 c = search needs
 returns-5 : tie.Need-returns-5
 returns-5 c =
     let found = c .before .before .before .before .before .before .before .before .before .next-end .ensures in
-    fell-join _ _ _ (omega (arith, c .before .before .before .before .before .before .before .before .before .before .before .before .before .before .before .pre .0)) (c .before .before .before .before .before .before .before .before .before .before .before .before .before .before .before .pre .1) (omega (arith, c .before .before .before .before .before .before .before .before .before .before .before .before .wide .ensures .0, c .before .before .before .before .before .before .before .before .before .before .before .if1 .left)) (found .0) (omega arith) (omega (arith, found .1 (omega arith), c .before .before .before .before .before .before .before .if3 .left)) (c .before .before .before .before .before .before .before .before .before .before .before .before .wide .ensures .0) (c .before .before .before .before .before .latest-standing .ensures) _ (omega arith)
+    fell-join _ _ _ (omega (arith, c .before .before .before .before .before .before .before .before .before .before .before .before .before .before .before .pre .0)) (c .before .before .before .before .before .before .before .before .before .before .before .before .before .before .before .pre .1) (omega (arith, c .before .before .before .before .before .before .before .before .before .before .before .before .wide .ensures .0, c .before .before .before .before .before .before .before .before .before .before .before .if1 .left)) (found .0) (omega arith) (omega (arith, found .1 (omega arith), c .before .before .before .before .before .before .before .if3 .left)) (c .before .before .before .before .before .before .before .before .before .before .before .before .wide .ensures .0) (c .before .before .before .before .before .previous-end .ensures) _ (omega arith)
     (c .before .before .join .ensures)
 
 pub fall-spec : {M : Type 1} → statement M
@@ -94,7 +97,7 @@ fall-spec =
     slice-write-cells
     same-length-2
     returns-3
-    latest-standing-requires
+    previous-end-requires
     spend-requires
     same-length-3
     returns-4
