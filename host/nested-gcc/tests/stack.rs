@@ -14,7 +14,7 @@ use nested_gcc::{
 // What include/nested_gcc.h promises for each function.
 const CHECK: usize = 4 * 1024;
 const CLOSE: usize = 48 * 1024;
-const SETTLE: usize = 256 * 1024;
+const SETTLE: usize = 320 * 1024;
 const SESSION: usize = 512 * 1024;
 
 const STACK: usize = 1024 * 1024;
