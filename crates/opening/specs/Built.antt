@@ -1,8 +1,8 @@
 -- Building the cells from a table's rises.
 --   Building             what it needs: sizes
 --   RowsAnswer, RowsBuilt   the rows of one kind, up to value v: they hold the segments of every line with the rises; or one is broken
---   Marking, WordOf      what the set of open slots needs: sizes; x tells which of the slots from `base` on have two values or more: those before
---                        base + i, and before n
+--   Marking, WordOf      what the set of open slots needs: sizes; x is below 2 ^ i and has each slot from `base` on, before base + i and before n,
+--                        that has two values or more
 --   Marked               the words before b are written, and no other cell
 --   BuildMeaning, AllBuilt  the rows of both kinds: the cells mirror each table with the rises; or one of its corners is broken
 -- Assumes nothing.
