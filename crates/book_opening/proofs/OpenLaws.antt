@@ -16,8 +16,8 @@ use Rattle.settling_model.proofs.BookLaws.{closedBook-loosest, closedBook-none,
 use Rattle.filter_model.specs.Rises.{TableRises}
 use Rattle.filter_model.specs.State.{World}
 use Rattle.filter_model.proofs.StateLaws.{world-cells, world-moved}
-use Rattle.filter.specs.declared.Outcome.{Outcome}
-use Rattle.filter.specs.declared.Outcome.the-variants.{Live, Dead}
+use Rattle.outcomes.specs.declared.Outcome.{Outcome}
+use Rattle.outcomes.specs.declared.Outcome.the-variants.{Live, Dead}
 use Rattle.opening.specs.Opened.{Rooms, OpenAnswer}
 use Rattle.rises.proofs.RisesLaws.{closed-rises}
 use Rattle.settle_fault.specs.Ready.{Ready}

@@ -16,8 +16,8 @@ use Rattle.filter_model.specs.Mirror.{Mirror}
 use Rattle.filter_model.specs.Open.{cellsSize}
 use Rattle.filter_model.specs.Rises.{TableRises}
 use Rattle.filter_model.specs.State.{World}
-use Rattle.filter.specs.declared.Outcome.{Outcome}
-use Rattle.filter.specs.declared.Outcome.the-variants.{Live, Dead}
+use Rattle.outcomes.specs.declared.Outcome.{Outcome}
+use Rattle.outcomes.specs.declared.Outcome.the-variants.{Live, Dead}
 use Rattle.book_rises.specs.BookRises.{RisesRoom}
 
 pub record StateRoom (b masks cells trail L U : List ℕ) : Type 0 where

@@ -3,7 +3,7 @@ use book::slots;
 use book::values;
 use book_masks::load_masks;
 use book_rises::closed_rises;
-use filter::Outcome;
+use outcomes::Outcome;
 use opening::open;
 ghost use Rattle.book_opening.specs.State.{StateRoom, OpensBook};
 

@@ -19,7 +19,7 @@ use Rattle.settling_model.proofs.SettlingLaws.{largest-settling, unstable-settl
 use Rattle.settling_model.proofs.StableLaws.{empty-broken}
 use Rattle.filter_model.specs.Mirror.{Mirror}
 use Rattle.filter.specs.Filtered.{Filtered}
-use Rattle.filter.specs.declared.Outcome.the-variants.{Live, Dead}
+use Rattle.outcomes.specs.declared.Outcome.the-variants.{Live, Dead}
 use Rattle.filter.proofs.LargestLaws.{strike-largest, strike-unstable, fix-largest, fix-live-has, fix-unstable}
 use Rattle.session_model.specs.Decisions.{keepOnly, cut}
 use Rattle.acts.specs.Given.{decisionOf, CutOf}

@@ -10,7 +10,7 @@ use lib.ListN.{length}
 use Rattle.closing_model.specs.Table.{Table}
 use Rattle.filter_model.specs.State.{Ready}
 use Rattle.filter.specs.Filtered.{Filtered}
-use Rattle.filter.specs.declared.Outcome.the-variants as Outcomes
+use Rattle.outcomes.specs.declared.Outcome.the-variants as Outcomes
 use Rattle.undoing.specs.Undone.{Undoable, Undone}
 use Rattle.session_model.specs.Decisions.{Decision, cut}
 use Rattle.session_model.specs.Calls as Calls

@@ -11,7 +11,7 @@ use Rattle.filter_model.specs.State.{World, Moved}
 use Rattle.filter_model.proofs.MirrorLaws.{progress-stable}
 use Rattle.filter_model.proofs.StateLaws.{world-moved}
 use Rattle.filter.specs.Filtered.{Filtered}
-use Rattle.filter.specs.declared.Outcome.the-variants.{Live, Dead}
+use Rattle.outcomes.specs.declared.Outcome.the-variants.{Live, Dead}
 use Rattle.undoing.specs.Undone.{Undoable, Undone}
 use Rattle.undoing.proofs.UndoneLaws.{moved-undoable, moved-undone}
 use Rattle.session_model.specs.State.{Rules}

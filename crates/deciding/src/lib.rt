@@ -3,9 +3,10 @@
 use acts::Session;
 use acts::Standing;
 use acts::Stepped;
-use filter::Outcome;
 use filter::fix;
 use filter::strike;
+use outcomes::Outcome;
+use outcomes::told;
 use undoing::undo;
 ghost use mathlib.Core.Path.{_≡_};
 ghost use Prim.Native.Nat.{_+_, _-_, _*_, _<_};
@@ -86,9 +87,9 @@ fn cut_slot(
         (now (masks .entry)) (now (cells .entry)) (now (trail .entry)) top (now (masks .exit)) (now (cells .exit)) (now (trail .exit)) r ⌝ }
 {
     if assign {
-        return fix(masks, cells, trail, n, k, top, slot, v);
+        return told(fix(masks, cells, trail, n, k, top, slot, v));
     }
-    strike(masks, cells, trail, n, k, top, slot, v)
+    told(strike(masks, cells, trail, n, k, top, slot, v))
 }
 
 // How many values were struck while the trail grew from height `from` to height `to`: the ones of what each strike took out.

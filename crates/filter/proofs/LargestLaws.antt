@@ -19,7 +19,7 @@ use Rattle.filter_model.specs.Mirror.{Mirror}
 use Rattle.filter_model.proofs.MirrorLaws.{progress-stable}
 use Rattle.filter_model.proofs.StoreLaws.{within-store, store-within, store-at, strike-bits}
 use Rattle.filter.specs.Filtered.{Filtered}
-use Rattle.filter.specs.declared.Outcome.the-variants.{Live, Dead}
+use Rattle.outcomes.specs.declared.Outcome.the-variants.{Live, Dead}
 
 -- ---- the slot's mask cut to m; a list that lies within it meets the cut Q
 module _ {n k : ℕ} {Q : List ℕ → Type 0} {M c t M′ c′ t′ : List ℕ} {top h : ℕ} {T : Table} (mirror : Mirror n k T M c) (slot m : ℕ)

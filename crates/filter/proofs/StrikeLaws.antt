@@ -2,7 +2,7 @@
 -- followed (`strike-followed`; `thin-quiet` and `thin-followed` where several values are left). `follow` from its two loops: none, one, a dead
 -- end in the first, or both (`follow-none` to `follow-both`). A fix to an absent value is a dead end (`fix-absent`).
 -- No contract cites this file. Assumes nothing.
-use mathlib.Core.Path.{_≡_, refl}
+use mathlib.Core.Path.{_≡_, refl, sym, _∙_}
 use mathlib.Core.Bool.{Bool, true, false}
 use mathlib.Core.Logic.{_⊎_, inl, inr, ⊎-elim, dite}
 use mathlib.Core.List.{List}
@@ -21,8 +21,10 @@ use Rattle.filter_model.specs.Strike.{Due, Cuts, Struck}
 use Rattle.filter_model.proofs.MirrorLaws.{settled-from-none, settled-from-subset}
 use Rattle.filter_model.proofs.StateLaws.{moved-refl, moved-trans}
 use Rattle.filter.specs.Filtered.{Filtered, Followed}
-use Rattle.filter.specs.declared.Outcome.{Outcome}
-use Rattle.filter.specs.declared.Outcome.the-variants.{Live, Dead}
+use Rattle.outcomes.specs.Codes.{isDead}
+use Rattle.outcomes.proofs.CodeLaws.{dead-not-lived}
+use Rattle.outcomes.specs.declared.Outcome.{Outcome}
+use Rattle.outcomes.specs.declared.Outcome.the-variants.{Live, Dead}
 use Rattle.filter.proofs.FilteredLaws.{filtered-refl, filtered-more, filtered-goal, filtered-asks}
 
 -- ---- nothing changed
@@ -77,9 +79,11 @@ module _ {n k : ℕ} {m c t : List ℕ} {top v x a w y b : ℕ} where
     follow-low b≡0 low =
         rw b≡0 (filtered-asks (λ N cuts. cuts .low) (filtered-goal low (λ live settled. record { low = settled; high = settled-from-none m′ w y 0 zero-le })))
 
-    pub follow-dead : {h : ℕ} → Filtered n k (BoundCut true m v a) (λ M. SettledFrom M v x a) m c t top m′ c′ t′ (Dead h)
-        → Filtered n k (Cuts m v a w b) (Followed v x a w y b) m c t top m′ c′ t′ (Dead h)
-    follow-dead low = filtered-asks (λ N cuts. cuts .low) (filtered-goal low (λ no. absurd no))
+    pub follow-dead : {r : Outcome} {dead : Bool} → dead ≡ isDead r → dead ≡ true
+        → Filtered n k (BoundCut true m v a) (λ M. SettledFrom M v x a) m c t top m′ c′ t′ r
+        → Filtered n k (Cuts m v a w b) (Followed v x a w y b) m c t top m′ c′ t′ r
+    follow-dead {r} dead-is dead low =
+        filtered-asks (λ N cuts. cuts .low) (filtered-goal low (λ live. absurd (dead-not-lived r (sym dead-is ∙ dead) live)))
 
     pub follow-both : {h : ℕ} {m″ c″ t″ : List ℕ} {r : Outcome} → Alive m
         → Filtered n k (BoundCut true m v a) (λ M. SettledFrom M v x a) m c t top m′ c′ t′ (Live h)

@@ -1,6 +1,5 @@
 -- What the contracts of `fix`, `strike` and their helpers say of an outcome.
---   heightOf, Lived, Held   the trail's height after a call; that it is Live; what it says of a stable list N: Live, it lies within the masks M,
---                           Dead, there is none
+--   Held N M r              what an outcome says of a stable list N: Live, it lies within the masks M, Dead, there is none
 --   Filtered n k Q G ..     what a call that was asked for the cut Q did: the state moved, and the cells still mirror every table that they mirrored;
 --                           Live: progress, G holds of the masks, and every stable list with the cut lies within them; Dead: there is no such list
 --   Followed v x a w y b M  after a strike: all from x on before a is settled for v, and all from y on before b for w
@@ -12,16 +11,9 @@ use Rattle.closing_model.specs.Table.{Table}
 use Rattle.settling_model.specs.Stable.{Stable, tableBounds}
 use Rattle.filter_model.specs.Mirror.{Mirror, SettledFrom, Progress}
 use Rattle.filter_model.specs.State.{Moved}
-use Rattle.filter.specs.declared.Outcome.{Outcome}
-use Rattle.filter.specs.declared.Outcome.the-variants.{Live, Dead}
-
-abbrev pub heightOf : Outcome → ℕ
-heightOf (Live h) = h
-heightOf (Dead h) = h
-
-abbrev pub Lived : Outcome → Type 0
-Lived (Live h) = Unit {0}
-Lived (Dead h) = ⊥
+use Rattle.outcomes.specs.Codes.{heightOf, Lived}
+use Rattle.outcomes.specs.declared.Outcome.{Outcome}
+use Rattle.outcomes.specs.declared.Outcome.the-variants.{Live, Dead}
 
 abbrev pub Held : List ℕ → List ℕ → Outcome → Type 0
 Held N M (Live h) = Subset N M

@@ -1,5 +1,12 @@
 // The filter: `fix` and `strike` call each other until everything before each corner that loses its last slack is settled, or a dead end is found.
-// Nothing is refused here. The contracts cite `specs/Filtered.antt` and the definitions of filter_model; one strike is a call of strikes.
+// The calls of the cycle return an outcome as the number of `outcomes`. Nothing is refused here. The contracts cite `specs/Filtered.antt` and the
+// definitions of filter_model; one strike is a call of strikes.
+use outcomes::Outcome;
+use outcomes::dead_at;
+use outcomes::height;
+use outcomes::is_dead;
+use outcomes::live_at;
+use outcomes::told;
 ghost use mathlib.Core.Bool.{true, false};
 ghost use Prim.Native.Nat.{_≤_};
 ghost use lib.Count.{ones};
@@ -9,14 +16,9 @@ ghost use Rattle.filter_model.specs.Cuts.{StrikeCut, FixCut, BoundCut};
 ghost use Rattle.filter_model.specs.Mirror.{SettledFrom};
 ghost use Rattle.filter_model.specs.State.{Ready, Pruning};
 ghost use Rattle.filter_model.specs.Strike.{Cuts};
+ghost use Rattle.outcomes.specs.Codes.{outcomeOf};
 ghost use Rattle.strikes.specs.Answers.{OtherValues};
 ghost use Rattle.filter.specs.Filtered.{Filtered, Followed};
-
-// The trail's height after a call, and whether a stable list may be left.
-pub enum Outcome {
-    Live(usize),
-    Dead(usize),
-}
 
 // Cuts the slot to value v, with all that follows: strikes each other value that it has. A slot that lacks v is a dead end.
 pub fn fix(
@@ -28,10 +30,10 @@ pub fn fix(
     top: usize,
     slot: usize,
     v: u32,
-) -> Outcome
+) -> usize
     requires { ⌜ Ready (now masks) (now cells) (now trail) n k top slot v ⌝ }
     ensures { λ r. ⌜ Filtered n k (FixCut slot v) (FixCut slot v)
-        (now (masks .entry)) (now (cells .entry)) (now (trail .entry)) top (now (masks .exit)) (now (cells .exit)) (now (trail .exit)) r ⌝ }
+        (now (masks .entry)) (now (cells .entry)) (now (trail .entry)) top (now (masks .exit)) (now (cells .exit)) (now (trail .exit)) (outcomeOf r) ⌝ }
 {
     let mut h = top;
     let mut rest = strikes::other_values(masks, slot, v);
@@ -41,16 +43,17 @@ pub fn fix(
         let left = domains::with(rest, v);
         let low = strikes::thin(masks, cells, trail, n, k, h, slot, w, left);
         if low.clash {
-            return Outcome::Dead(h);
+            return dead_at(h);
         }
         h += 1;
         if low.reach == 0 {
             continue;
         }
-        match fix_free(masks, cells, trail, n, k, h, w, low.note, low.reach) {
-            Outcome::Live(x) => h = x,
-            Outcome::Dead(x) => return Outcome::Dead(x),
+        let x = fix_free(masks, cells, trail, n, k, h, w, low.note, low.reach);
+        if is_dead(x) {
+            return x;
         }
+        h = height(x);
         rest = strikes::other_values(masks, slot, v);
     }
     strike_other(masks, cells, trail, n, k, h, slot, v, rest)
@@ -67,18 +70,18 @@ fn strike_other(
     slot: usize,
     v: u32,
     rest: u32,
-) -> Outcome
+) -> usize
     requires { ⌜ Ready (now masks) (now cells) (now trail) n k top slot v × OtherValues (getD (now masks) slot 0) v rest × (ones rest ≤ 1) ⌝ }
     ensures { λ r. ⌜ Filtered n k (FixCut slot v) (FixCut slot v)
-        (now (masks .entry)) (now (cells .entry)) (now (trail .entry)) top (now (masks .exit)) (now (cells .exit)) (now (trail .exit)) r ⌝ }
+        (now (masks .entry)) (now (cells .entry)) (now (trail .entry)) top (now (masks .exit)) (now (cells .exit)) (now (trail .exit)) (outcomeOf r) ⌝ }
 {
     if rest != 0 {
         return strike(masks, cells, trail, n, k, top, slot, domains::lowest(rest));
     }
     if !strikes::has_value(masks, slot, v) {
-        return Outcome::Dead(top);
+        return dead_at(top);
     }
-    Outcome::Live(top)
+    live_at(top)
 }
 
 // Takes value v out of the slot, with all that follows.
@@ -91,20 +94,20 @@ pub fn strike(
     top: usize,
     slot: usize,
     v: u32,
-) -> Outcome
+) -> usize
     requires { ⌜ Ready (now masks) (now cells) (now trail) n k top slot v ⌝ }
     ensures { λ r. ⌜ Filtered n k (StrikeCut slot v) (StrikeCut slot v)
-        (now (masks .entry)) (now (cells .entry)) (now (trail .entry)) top (now (masks .exit)) (now (cells .exit)) (now (trail .exit)) r ⌝ }
+        (now (masks .entry)) (now (cells .entry)) (now (trail .entry)) top (now (masks .exit)) (now (cells .exit)) (now (trail .exit)) (outcomeOf r) ⌝ }
 {
     if !strikes::has_value(masks, slot, v) {
-        return Outcome::Live(top);
+        return live_at(top);
     }
     let o = strikes::strike_one(masks, cells, trail, n, k, top, slot, v);
     let strikes::Removal::Made(x, a, y, b, w) = o else {
-        return Outcome::Dead(top);
+        return dead_at(top);
     };
     if a == 0 && b == 0 {
-        return Outcome::Live(top + 1);
+        return live_at(top + 1);
     }
     follow(masks, cells, trail, n, k, top + 1, v, x, a, w, y, b)
 }
@@ -124,26 +127,22 @@ fn follow(
     w: u32,
     y: usize,
     b: usize,
-) -> Outcome
+) -> usize
     requires { ⌜ Pruning (now masks) (now cells) (now trail) n k top v a × Pruning (now masks) (now cells) (now trail) n k top w b ⌝ }
     ensures { λ r. ⌜ Filtered n k (Cuts (now (masks .entry)) v a w b) (Followed v x a w y b)
-        (now (masks .entry)) (now (cells .entry)) (now (trail .entry)) top (now (masks .exit)) (now (cells .exit)) (now (trail .exit)) r ⌝ }
+        (now (masks .entry)) (now (cells .entry)) (now (trail .entry)) top (now (masks .exit)) (now (cells .exit)) (now (trail .exit)) (outcomeOf r) ⌝ }
 {
     if a == 0 {
         return strike_free(masks, cells, trail, n, k, top, w, y, b);
     }
     let p = fix_free(masks, cells, trail, n, k, top, v, x, a);
-    match p {
-        Outcome::Live(h) => {
-            if b == 0 {
-                return Outcome::Live(h);
-            }
-            return strike_free(masks, cells, trail, n, k, h, w, y, b);
-        }
-        Outcome::Dead(h) => {
-            return Outcome::Dead(h);
-        }
+    if is_dead(p) {
+        return p;
     }
+    if b == 0 {
+        return p;
+    }
+    strike_free(masks, cells, trail, n, k, height(p), w, y, b)
 }
 
 // Where the lower (`lower`), or the upper, bound of v is met at `end`: settles each slot before it.
@@ -163,9 +162,9 @@ pub fn prune(
         (now (masks .entry)) (now (cells .entry)) (now (trail .entry)) top (now (masks .exit)) (now (cells .exit)) (now (trail .exit)) r ⌝ }
 {
     if lower {
-        return fix_free(masks, cells, trail, n, k, top, v, 0, end);
+        return told(fix_free(masks, cells, trail, n, k, top, v, 0, end));
     }
-    strike_free(masks, cells, trail, n, k, top, v, 0, end)
+    told(strike_free(masks, cells, trail, n, k, top, v, 0, end))
 }
 
 // Where the lower bound of v is met at `end`: fixes each free slot from `start` on before it to v. It looks at the open slots alone, a word of
@@ -180,10 +179,10 @@ fn fix_free(
     v: u32,
     start: usize,
     end: usize,
-) -> Outcome
+) -> usize
     requires { ⌜ Pruning (now masks) (now cells) (now trail) n k top v end ⌝ }
     ensures { λ r. ⌜ Filtered n k (BoundCut true (now (masks .entry)) v end) (λ M. SettledFrom M v start end)
-        (now (masks .entry)) (now (cells .entry)) (now (trail .entry)) top (now (masks .exit)) (now (cells .exit)) (now (trail .exit)) r ⌝ }
+        (now (masks .entry)) (now (cells .entry)) (now (trail .entry)) top (now (masks .exit)) (now (cells .exit)) (now (trail .exit)) (outcomeOf r) ⌝ }
 {
     let mut h = top;
     let mut b = start / 16;
@@ -200,12 +199,13 @@ fn fix_free(
         if !strikes::is_free(masks, s, v) {
             continue;
         }
-        match fix(masks, cells, trail, n, k, h, s, v) {
-            Outcome::Live(x) => h = x,
-            Outcome::Dead(x) => return Outcome::Dead(x),
+        let x = fix(masks, cells, trail, n, k, h, s, v);
+        if is_dead(x) {
+            return x;
         }
+        h = height(x);
     }
-    Outcome::Live(h)
+    live_at(h)
 }
 
 // Where the upper bound of v is met at `end`: strikes v from each free slot from `start` on before it, of the open ones as `fix_free`.
@@ -219,10 +219,10 @@ fn strike_free(
     v: u32,
     start: usize,
     end: usize,
-) -> Outcome
+) -> usize
     requires { ⌜ Pruning (now masks) (now cells) (now trail) n k top v end ⌝ }
     ensures { λ r. ⌜ Filtered n k (BoundCut false (now (masks .entry)) v end) (λ M. SettledFrom M v start end)
-        (now (masks .entry)) (now (cells .entry)) (now (trail .entry)) top (now (masks .exit)) (now (cells .exit)) (now (trail .exit)) r ⌝ }
+        (now (masks .entry)) (now (cells .entry)) (now (trail .entry)) top (now (masks .exit)) (now (cells .exit)) (now (trail .exit)) (outcomeOf r) ⌝ }
 {
     let mut h = top;
     let mut b = start / 16;
@@ -240,25 +240,27 @@ fn strike_free(
             continue;
         }
         if !strikes::is_wide(masks, slot) {
-            match strike(masks, cells, trail, n, k, h, slot, v) {
-                Outcome::Live(x) => h = x,
-                Outcome::Dead(x) => return Outcome::Dead(x),
+            let x = strike(masks, cells, trail, n, k, h, slot, v);
+            if is_dead(x) {
+                return x;
             }
+            h = height(x);
             continue;
         }
         let left = strikes::without_value(masks, slot, v);
         let low = strikes::thin(masks, cells, trail, n, k, h, slot, v, left);
         if low.clash {
-            return Outcome::Dead(h);
+            return dead_at(h);
         }
         h += 1;
         if low.reach == 0 {
             continue;
         }
-        match fix_free(masks, cells, trail, n, k, h, v, low.note, low.reach) {
-            Outcome::Live(x) => h = x,
-            Outcome::Dead(x) => return Outcome::Dead(x),
+        let x = fix_free(masks, cells, trail, n, k, h, v, low.note, low.reach);
+        if is_dead(x) {
+            return x;
         }
+        h = height(x);
     }
-    Outcome::Live(h)
+    live_at(h)
 }

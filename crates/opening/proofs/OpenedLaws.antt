@@ -12,8 +12,8 @@ use Rattle.filter_model.proofs.MirrorLaws.{quiet-stable}
 use Rattle.filter_model.proofs.RisesLaws.{broken-unstable, lineTable, rises-table}
 use Rattle.filter_model.proofs.StateLaws.{moved-refl, world-cells}
 use Rattle.filter.specs.Filtered.{Filtered}
-use Rattle.filter.specs.declared.Outcome.{Outcome}
-use Rattle.filter.specs.declared.Outcome.the-variants.{Live, Dead}
+use Rattle.outcomes.specs.declared.Outcome.{Outcome}
+use Rattle.outcomes.specs.declared.Outcome.the-variants.{Live, Dead}
 use Rattle.opening.specs.Built.{AllBuilt}
 use Rattle.opening.specs.Opened.{Anything, Opening, QuietBelow, OpenMeaning, OpenAnswer}
 

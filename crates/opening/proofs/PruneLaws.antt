@@ -15,9 +15,10 @@ use Rattle.filter_model.specs.Mirror.{row, Mirror, Quiet}
 use Rattle.filter_model.proofs.MirrorLaws.{progress-trans, progress-quiet}
 use Rattle.filter_model.proofs.SpentLaws.{spent-row, spent-cut, spent-quiet}
 use Rattle.filter_model.proofs.StateLaws.{moved-trans, world-moved}
-use Rattle.filter.specs.Filtered.{Lived, Filtered}
-use Rattle.filter.specs.declared.Outcome.{Outcome}
-use Rattle.filter.specs.declared.Outcome.the-variants.{Live, Dead}
+use Rattle.outcomes.specs.Codes.{Lived}
+use Rattle.filter.specs.Filtered.{Filtered}
+use Rattle.outcomes.specs.declared.Outcome.{Outcome}
+use Rattle.outcomes.specs.declared.Outcome.the-variants.{Live, Dead}
 use Rattle.filter.proofs.FilteredLaws.{filtered-more}
 use Rattle.opening.specs.Opened.{Anything, Mirrored, Opening, QuietValue, QuietBelow}
 

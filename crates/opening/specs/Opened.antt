@@ -16,9 +16,9 @@ use Rattle.settling_model.specs.Stable.{Largest, Unstable, tableBounds}
 use Rattle.filter_model.specs.Mirror.{Mirror, Quiet}
 use Rattle.filter_model.specs.Rises.{TableRises}
 use Rattle.filter_model.specs.State.{World, Moved}
-use Rattle.filter.specs.Filtered.{heightOf}
-use Rattle.filter.specs.declared.Outcome.{Outcome}
-use Rattle.filter.specs.declared.Outcome.the-variants.{Live, Dead}
+use Rattle.outcomes.specs.Codes.{heightOf}
+use Rattle.outcomes.specs.declared.Outcome.{Outcome}
+use Rattle.outcomes.specs.declared.Outcome.the-variants.{Live, Dead}
 
 abbrev pub Anything : List ℕ → Type 0
 Anything N = Unit {0}

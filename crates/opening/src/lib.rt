@@ -19,13 +19,13 @@ pub fn open(
     uppers: &[u32],
     n: usize,
     k: u32,
-) -> filter::Outcome
+) -> outcomes::Outcome
     requires { ⌜ Rooms (now masks) (now cells) (now trail) (now lowers) (now uppers) n k ⌝ }
     ensures { λ r. ⌜ OpenAnswer n k (now (lowers .entry)) (now (uppers .entry)) (now (masks .entry)) (now (cells .entry)) (now (trail .entry))
         (now (masks .exit)) (now (cells .exit)) (now (trail .exit)) r ⌝ }
 {
     if !build_all(cells, lowers, uppers, masks, n, k) {
-        return filter::Outcome::Dead(0);
+        return outcomes::Outcome::Dead(0);
     }
     prune_all(masks, cells, trail, n, k, 0)
 }
@@ -118,7 +118,7 @@ fn prune_all(
     n: usize,
     k: u32,
     top: usize,
-) -> filter::Outcome
+) -> outcomes::Outcome
     requires { ⌜ Opening (now masks) (now cells) (now trail) n k top ⌝ }
     ensures { λ r. ⌜ Filtered n k Anything (QuietBelow n k (now (masks .entry)) (now (cells .entry)) k)
         (now (masks .entry)) (now (cells .entry)) (now (trail .entry)) top (now (masks .exit)) (now (cells .exit)) (now (trail .exit)) r ⌝ }
@@ -127,15 +127,15 @@ fn prune_all(
     for v in 0..k {
         let o = prune_value(masks, cells, trail, n, k, h, v);
         match o {
-            filter::Outcome::Live(x) => {
+            outcomes::Outcome::Live(x) => {
                 h = x;
             }
-            filter::Outcome::Dead(x) => {
-                return filter::Outcome::Dead(x);
+            outcomes::Outcome::Dead(x) => {
+                return outcomes::Outcome::Dead(x);
             }
         }
     }
-    filter::Outcome::Live(h)
+    outcomes::Outcome::Live(h)
 }
 
 // Settles everything before the spent corners of value v's rows.
@@ -147,7 +147,7 @@ fn prune_value(
     k: u32,
     top: usize,
     v: u32,
-) -> filter::Outcome
+) -> outcomes::Outcome
     requires { ⌜ Opening (now masks) (now cells) (now trail) n k top × (v < k) ⌝ }
     ensures { λ r. ⌜ Filtered n k Anything (QuietValue n k (now (masks .entry)) (now (cells .entry)) v)
         (now (masks .entry)) (now (cells .entry)) (now (trail .entry)) top (now (masks .exit)) (now (cells .exit)) (now (trail .exit)) r ⌝ }
@@ -155,12 +155,12 @@ fn prune_value(
     let a = strikes::spent(cells, v, n);
     let p = filter::prune(masks, cells, trail, n, k, top, v, a, true);
     match p {
-        filter::Outcome::Live(h) => {
+        outcomes::Outcome::Live(h) => {
             let b = strikes::spent(cells, k + v, n);
             return filter::prune(masks, cells, trail, n, k, h, v, b, false);
         }
-        filter::Outcome::Dead(x) => {
-            return filter::Outcome::Dead(x);
+        outcomes::Outcome::Dead(x) => {
+            return outcomes::Outcome::Dead(x);
         }
     }
 }

@@ -7,7 +7,7 @@ use book::slots;
 use book::values;
 use book_masks::clear_masks;
 use book_opening::open_book;
-use filter::Outcome;
+use outcomes::Outcome;
 use running_model::Ended;
 ghost use mathlib.Core.Path.{_≡_};
 ghost use lib.ListN.{length};

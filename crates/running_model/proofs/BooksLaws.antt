@@ -21,8 +21,8 @@ use Rattle.segments_model.specs.Lines.{cornerOf, slackOf}
 use Rattle.segments_model.specs.Links.{gaps}
 use Rattle.segments_model.proofs.SlackLaws.{segments-stands, segments-holds}
 use Rattle.filter_model.specs.Mirror.{Mirror, cellsOf}
-use Rattle.filter.specs.declared.Outcome.{Outcome}
-use Rattle.filter.specs.declared.Outcome.the-variants as Outcomes
+use Rattle.outcomes.specs.declared.Outcome.{Outcome}
+use Rattle.outcomes.specs.declared.Outcome.the-variants as Outcomes
 use Rattle.book_opening.specs.State.{BookState, OpensBook}
 use Rattle.session_model.specs.BookRun.{rulesOf, stateAfter, repliesOf, standingAfter}
 use Rattle.session_model.specs.Calls as Calls

@@ -7,7 +7,7 @@ use book::Limits;
 use book::slots;
 use book_masks::clear_masks;
 use book_opening::open_book;
-use filter::Outcome;
+use outcomes::Outcome;
 use settle_fault::fault;
 ghost use mathlib.Core.Path.{_≡_};
 ghost use lib.ListN.{length};

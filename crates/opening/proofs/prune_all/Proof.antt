@@ -4,7 +4,7 @@ use mathlib.Core.List.{List}
 use Prim.Native.Nat.{ℕ, _-_, _≤_}
 use native.Mathlib.Omega.{arith}
 use borrow.Author.Needs.{needs}
-use Rattle.filter.specs.declared.Outcome.the-variants.{Live}
+use Rattle.outcomes.specs.declared.Outcome.the-variants.{Live}
 use Rattle.filter.specs.Filtered.{Filtered}
 use Rattle.filter.proofs.FilteredLaws.{filtered-at, filtered-refl, filtered-more, filtered-goal}
 use Rattle.opening.specs.Opened.{Anything, QuietBelow}
