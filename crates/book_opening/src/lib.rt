@@ -3,8 +3,8 @@ use book::slots;
 use book::values;
 use book_masks::load_masks;
 use book_rises::closed_rises;
-use outcomes::Outcome;
 use opening::open;
+use outcomes::Outcome;
 ghost use Rattle.book_opening.specs.State.{StateRoom, OpensBook};
 
 // Opens a good book: Live with the settled masks, the cells and the rises, or Dead where it does not settle.

@@ -1,23 +1,16 @@
 // The filter: `fix` and `strike` call each other until everything before each corner that loses its last slack is settled, or a dead end is found.
 // The calls of the cycle return an outcome as the number of `outcomes`. Nothing is refused here. The contracts cite `specs/Filtered.antt` and the
 // definitions of filter_model; one strike is a call of strikes.
-use outcomes::Outcome;
 use outcomes::dead_at;
 use outcomes::height;
 use outcomes::is_dead;
 use outcomes::live_at;
-use outcomes::told;
 ghost use mathlib.Core.Bool.{true, false};
-ghost use Prim.Native.Nat.{_≤_};
-ghost use lib.Count.{ones};
-ghost use lib.ListN.{getD};
-ghost use Rattle.settling_model.specs.Settled.{Settled};
 ghost use Rattle.filter_model.specs.Cuts.{StrikeCut, FixCut, BoundCut};
 ghost use Rattle.filter_model.specs.Mirror.{SettledFrom};
 ghost use Rattle.filter_model.specs.State.{Ready, Pruning};
 ghost use Rattle.filter_model.specs.Strike.{Cuts};
 ghost use Rattle.outcomes.specs.Codes.{outcomeOf};
-ghost use Rattle.strikes.specs.Answers.{OtherValues};
 ghost use Rattle.filter.specs.Filtered.{Filtered, Followed};
 
 // Cuts the slot to value v, with all that follows: strikes each other value that it has. A slot that lacks v is a dead end.
@@ -56,32 +49,13 @@ pub fn fix(
         h = height(x);
         rest = strikes::other_values(masks, slot, v);
     }
-    strike_other(masks, cells, trail, n, k, h, slot, v, rest)
-}
-
-// Cuts the slot to v: strikes `rest`, its other values, of which there is at most one. A slot that lacks v is a dead end.
-fn strike_other(
-    masks: &mut [u32],
-    cells: &mut [u16],
-    trail: &mut [u8],
-    n: usize,
-    k: u32,
-    top: usize,
-    slot: usize,
-    v: u32,
-    rest: u32,
-) -> usize
-    requires { ⌜ Ready (now masks) (now cells) (now trail) n k top slot v × OtherValues (getD (now masks) slot 0) v rest × (ones rest ≤ 1) ⌝ }
-    ensures { λ r. ⌜ Filtered n k (FixCut slot v) (FixCut slot v)
-        (now (masks .entry)) (now (cells .entry)) (now (trail .entry)) top (now (masks .exit)) (now (cells .exit)) (now (trail .exit)) (outcomeOf r) ⌝ }
-{
     if rest != 0 {
-        return strike(masks, cells, trail, n, k, top, slot, domains::lowest(rest));
+        return strike(masks, cells, trail, n, k, h, slot, domains::lowest(rest));
     }
     if !strikes::has_value(masks, slot, v) {
-        return dead_at(top);
+        return dead_at(h);
     }
-    live_at(top)
+    live_at(h)
 }
 
 // Takes value v out of the slot, with all that follows.
@@ -145,31 +119,9 @@ fn follow(
     strike_free(masks, cells, trail, n, k, height(p), w, y, b)
 }
 
-// Where the lower (`lower`), or the upper, bound of v is met at `end`: settles each slot before it.
-pub fn prune(
-    masks: &mut [u32],
-    cells: &mut [u16],
-    trail: &mut [u8],
-    n: usize,
-    k: u32,
-    top: usize,
-    v: u32,
-    end: usize,
-    lower: bool,
-) -> Outcome
-    requires { ⌜ Pruning (now masks) (now cells) (now trail) n k top v end ⌝ }
-    ensures { λ r. ⌜ Filtered n k (BoundCut lower (now (masks .entry)) v end) (λ M. Settled M v end)
-        (now (masks .entry)) (now (cells .entry)) (now (trail .entry)) top (now (masks .exit)) (now (cells .exit)) (now (trail .exit)) r ⌝ }
-{
-    if lower {
-        return told(fix_free(masks, cells, trail, n, k, top, v, 0, end));
-    }
-    told(strike_free(masks, cells, trail, n, k, top, v, 0, end))
-}
-
 // Where the lower bound of v is met at `end`: fixes each free slot from `start` on before it to v. It looks at the open slots alone, a word of
 // their set at a time.
-fn fix_free(
+pub fn fix_free(
     masks: &mut [u32],
     cells: &mut [u16],
     trail: &mut [u8],
@@ -209,7 +161,7 @@ fn fix_free(
 }
 
 // Where the upper bound of v is met at `end`: strikes v from each free slot from `start` on before it, of the open ones as `fix_free`.
-fn strike_free(
+pub fn strike_free(
     masks: &mut [u32],
     cells: &mut [u16],
     trail: &mut [u8],

@@ -153,11 +153,11 @@ fn prune_value(
         (now (masks .entry)) (now (cells .entry)) (now (trail .entry)) top (now (masks .exit)) (now (cells .exit)) (now (trail .exit)) r ⌝ }
 {
     let a = strikes::spent(cells, v, n);
-    let p = filter::prune(masks, cells, trail, n, k, top, v, a, true);
+    let p = pruning::prune(masks, cells, trail, n, k, top, v, a, true);
     match p {
         outcomes::Outcome::Live(h) => {
             let b = strikes::spent(cells, k + v, n);
-            return filter::prune(masks, cells, trail, n, k, h, v, b, false);
+            return pruning::prune(masks, cells, trail, n, k, h, v, b, false);
         }
         outcomes::Outcome::Dead(x) => {
             return outcomes::Outcome::Dead(x);

@@ -1,11 +1,11 @@
--- `filter::prune` meets its contract: each kind has its own loop (`filtered-bound`). Assumes nothing.
+-- `pruning::prune` meets its contract: each kind has its own loop (`filtered-bound`). Assumes nothing.
 use mathlib.Core.Path.{sym}
 use mathlib.Core.Bool.{true, false}
 use borrow.Author.Needs.{needs}
 use Rattle.filter_model.proofs.MirrorLaws.{settled-from-all}
 use Rattle.filter.proofs.FilteredLaws.{filtered-at, filtered-goal, filtered-bound}
-use Rattle.filter.proofs.prune.Statement.{statement}
-use Rattle.filter.proofs.prune.Tie as tie
+use Rattle.pruning.proofs.prune.Statement.{statement}
+use Rattle.pruning.proofs.prune.Tie as tie
 
 fix-free-requires : tie.Need-fix-free-requires
 fix-free-requires c κs = search needs
