@@ -37,7 +37,7 @@ row-raised {n} {row} {slot} {g = g} {x = x} rows lent row-in fits free =
       raisable = lent .does .back free .raisable;
       is =
           sym
-          (over-back (row * (n + 2)) (n + 2) (risen (n + 1) slot g x) (omega (arith, row-inside n rows row row-in))
+          (over-back (row * (n + 2)) (n + 2) (risen (n + 1) g x) (omega (arith, row-inside n rows row row-in))
           (record { does = lent .does .back free .back; size = lent .size; before = lent .before; after = lent .after }));
     }
 

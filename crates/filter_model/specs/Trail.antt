@@ -52,7 +52,7 @@ putIn M slot v = set M slot (getD M slot 0 + 2 ^ v)
 
 pub record RowRaised (n row slot g x : ℕ) (cells′ cells : List ℕ) : Type 0 where
   pub raisable : Raisable (n + 1) slot g x (part (row * (n + 2)) (n + 2) cells′)
-  pub is : cells ≡ over (row * (n + 2)) (n + 2) (risen (n + 1) slot g x) cells′
+  pub is : cells ≡ over (row * (n + 2)) (n + 2) (risen (n + 1) g x) cells′
 
 pub record UpperRaised (n k : ℕ) (trail M′ : List ℕ) (slot : ℕ) (cells′ cells : List ℕ) : Type 0 where
   pub fixed : (w : ℕ) → FixedAt M′ slot w → (w < k) × (openBit n k cells′ slot ≡ 0)

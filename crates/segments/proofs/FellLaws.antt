@@ -15,7 +15,7 @@ use Rattle.segments_model.specs.Links.{gaps, nextOf}
 use Rattle.segments_model.specs.Search.{Latest}
 use Rattle.segments_model.proofs.FallenLaws.{clashed, quiet-none, quiet-less, quiet-join, reached-spend}
 use Rattle.segments_model.proofs.LatestLaws.{latest-end, latest-none}
-use Rattle.segments_model.proofs.LinksLaws.{next-after, gaps-first, end-gaps}
+use Rattle.segments_model.proofs.LinksLaws.{next-after, gaps-first}
 use Rattle.segments_model.proofs.RaiseLaws.{reversal-none, reversal-less, reversal-join, reversal-spend}
 use Rattle.segments.specs.declared.Hit.{Hit}
 use Rattle.segments.specs.declared.Hit.the-variants.{Lowered, Still, Joined, Clash, Reached}
@@ -28,13 +28,13 @@ module _ (n slot : ℕ) (l : List ℕ) where
   fell-clash slot<z = record { size = refl; inside = tt; answer = λ C f held. clashed slot held slot<z; reverses = slot<z; barred = refl }
 
   module _ (slot≤n : slot ≤ n) (n<len : n < length l) (free : getD l 0 0 ≤ slot) {t : ℕ} (found : t ≡ nextOf n slot l) where
-    pub fell-none : n < t → Fell n slot l l Still
-    fell-none n<t =
+    pub fell-none : n < 1024 → n < t → Fell n slot l l Still
+    fell-none few n<t =
         record {
           size = refl;
           inside = tt;
           answer = λ C f held. quiet-none slot held free slot≤n n<len found n<t;
-          reverses = reversal-none n slot l slot≤n free found n<t;
+          reverses = reversal-none n slot l slot≤n free few;
           barred = free;
         }
 
@@ -60,9 +60,7 @@ module _ (n slot : ℕ) (l : List ℕ) where
               size = ap length stored ∙ simp length-set;
               inside = tt;
               answer = λ C f held. rw stored (quiet-join slot held free slot≤n n<len found t≤n last prev 0<p);
-              reverses = rw stored
-                  (reversal-join n slot l slot≤n free found t≤n n<len last p (1024 + (t - p - 1)) (prev .before) 0<p
-                  (end-gaps l p 0<p (omega (arith, prev .before)) (prev .stands 0<p)));
+              reverses = rw stored (reversal-join n slot l slot≤n free found t≤n n<len last p (prev .before) 0<p);
               barred = free;
             }
 

@@ -69,14 +69,14 @@ pub fn fall_in(cells: &mut [u16], base: usize, n: usize, slot: usize) -> Hit
 // Takes a fall after the slot back, by the tag and the note that it left: the cells are as they were before it.
 pub fn raise(cells: &mut [u16], n: usize, slot: usize, tag: usize, note: usize)
     requires { ⌜ (slot < n) × (n < length (now cells)) × (n < 1024) × Raisable n slot tag note (now cells) ⌝ }
-    ensures { λ _. ⌜ now (cells .exit) ≡ risen n slot tag note (now (cells .entry)) ⌝ }
+    ensures { λ _. ⌜ now (cells .exit) ≡ risen n tag note (now (cells .entry)) ⌝ }
 {
     if tag < 2 {
         lift(cells, note + 256 * tag + 1);
         return;
     }
     if tag == 2 {
-        unjoin(cells, n, slot, note);
+        unjoin(cells, n, note);
         return;
     }
     let z = wide(cells[0]);
@@ -86,7 +86,7 @@ pub fn raise(cells: &mut [u16], n: usize, slot: usize, tag: usize, note: usize)
 // The same for a row of n slots, the n + 2 cells from `base` on of a longer list, whose other cells stay.
 pub fn raise_in(cells: &mut [u16], base: usize, n: usize, slot: usize, tag: usize, note: usize)
     requires { ⌜ (slot ≤ n) × (base + n + 1 < length (now cells)) × (n < 1023) × Raisable (n + 1) slot tag note (part base (n + 2) (now cells)) ⌝ }
-    ensures { λ _. ⌜ now (cells .exit) ≡ over base (n + 2) (risen (n + 1) slot tag note) (now (cells .entry)) ⌝ }
+    ensures { λ _. ⌜ now (cells .exit) ≡ over base (n + 2) (risen (n + 1) tag note) (now (cells .entry)) ⌝ }
 {
     let end = base + n + 2;
     raise(&mut cells[base..end], n + 1, slot, tag, note);
@@ -205,13 +205,16 @@ fn lift(cells: &mut [u16], t: usize)
     cells[t] = cells[t] + 1;
 }
 
-// The first right end after the slot is parted again from p, which was joined to it.
-fn unjoin(cells: &mut [u16], n: usize, slot: usize, p: usize)
-    requires { ⌜ (slot < n) × (n < length (now cells)) × (n < 1024) × (p ≤ slot) ⌝ }
-    ensures { λ _. ⌜ now (cells .exit) ≡ parted n (nextOf n slot (now (cells .entry))) p (now (cells .entry)) ⌝ }
+// The right end that p was joined to, which the cell at p links to, is parted from it again; where that is no link or leads past n, the cells stay.
+fn unjoin(cells: &mut [u16], n: usize, p: usize)
+    requires { ⌜ (p ≤ n) × (n < length (now cells)) × (n < 1024) ⌝ }
+    ensures { λ _. ⌜ now (cells .exit) ≡ parted n p (now (cells .entry)) ⌝ }
 {
-    let found = next_end(cells, n, slot);
-    let t = found.at;
+    let c = wide(cells[p]);
+    if c < 1024 {
+        return;
+    }
+    let t = p + (c - 1023);
     if n < t {
         return;
     }

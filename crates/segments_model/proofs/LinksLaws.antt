@@ -1,6 +1,6 @@
 -- The laws of specs/Links.antt: the gaps of a store (`gaps-set`, `gaps-set-first`) and of a cell (`gaps-at`); that links stay links where no right
 -- end is added (`link-kept`); and the search: where it ends a right end stands (`next-stands`), with valid links it is the first one
--- (`next-first`), and stores before it leave it (`next-same`); one turn of it (`Seeking`). No contract cites this file. Assumes nothing.
+-- (`next-first`); one turn of it (`Seeking`). No contract cites this file. Assumes nothing.
 use mathlib.Core.Path.{_≡_, refl, sym, ap, _∙_, subst}
 use mathlib.Core.Bool.{Bool}
 use mathlib.Core.Logic.{dite}
@@ -161,26 +161,6 @@ sought n l =
           (λ to≤i. rest .gap links (omega arith) (here .inside) n<len i (omega arith) i<t));
     })
 
--- the same in a list that agrees up to t, where it has a right end too
-module _ (n : ℕ) (l l′ : List ℕ) where
-  record Agrees (a t : ℕ) : Type 0 where
-    after : a ≤ t
-    same : ((i : ℕ) → a ≤ i → i < t → getD l′ i 0 ≡ getD l i 0) → (t ≤ n → getD l′ t 0 < 1024) → (left : ℕ) → n < a + left → seek left n a l′ ≡ t
-
-  agrees-link : (a t : ℕ) → a ≤ n → 1024 ≤ getD l a 0 → Agrees (target a (getD l a 0)) t
-      → ((i : ℕ) → a ≤ i → i < t → getD l′ i 0 ≡ getD l i 0) → (t ≤ n → getD l′ t 0 < 1024) → (left : ℕ) → n < a + left → seek left n a l′ ≡ t
-  agrees-link a t a≤n link rest same stands zero enough = absurd (omega arith)
-  agrees-link a t a≤n link rest same stands (suc left) enough =
-      let here : getD l′ a 0 ≡ getD l a 0 = same a (le-refl a) (omega (arith, rest .after)) in
-      seek-link n a l′ a≤n left (omega (arith, here)) ∙ ap (λ (c : ℕ). seek left n (target a c) l′) here
-      ∙ rest .same (λ i to≤i i<t. same i (omega arith) i<t) stands left (omega arith)
-
-  agrees : (left a : ℕ) → n < a + left → Agrees a (seek left n a l)
-  agrees =
-      seek-cases n l Agrees (λ a n<a. record { after = le-refl a; same = λ same stands left enough. seek-past left n a l′ n<a })
-      (λ a a≤n ends. record { after = le-refl a; same = λ same stands left enough. seek-end n a l′ a≤n left (stands a≤n) })
-      (λ a t a≤n link rest. record { after = omega (arith, rest .after); same = agrees-link a t a≤n link rest })
-
 -- ---- nextOf
 
 module _ {n slot : ℕ} (slot≤n : slot ≤ n) (l : List ℕ) {t : ℕ} (found : t ≡ nextOf n slot l) where
@@ -201,12 +181,6 @@ module _ {n slot : ℕ} (slot≤n : slot ≤ n) (l : List ℕ) {t : ℕ} (found 
         stands = λ t≤n. omega (arith, gaps-end l t (omega (arith, next-after)) (omega arith) (next-stands t≤n));
         gap = next-sought .gap links (omega arith) (omega arith) n<len;
       }
-
-  -- a list that agrees up to t, where it has a right end too
-  pub next-same : (l′ : List ℕ) → ((i : ℕ) → slot < i → i < t → getD l′ i 0 ≡ getD l i 0) → (t ≤ n → getD l′ t 0 < 1024) → t ≡ nextOf n slot l′
-  next-same l′ same stands =
-      let agree : Agrees n l l′ (slot + 1) t = rw found (agrees n l l′ (n - slot) (slot + 1) (omega arith)) in
-      sym (agree .same (λ i slot<i i<t. same i (omega arith) i<t) stands (n - slot) (omega arith))
 
 -- ---- the search under way: from t on it ends where it would from the slot
 

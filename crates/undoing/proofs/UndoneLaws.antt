@@ -41,19 +41,19 @@ row-undoing {n = n} {k = k} row sizes slot<n row-in size raised =
     }
 
 -- a right end is raised in its place among all cells
-row-lifted : (n row slot g x : ℕ) (cells : List ℕ) → row * (n + 2) + n + 1 < length cells → g < 2 → endOf g x ≤ n + 1
-    → lifted (row * (n + 2) + endOf g x) cells ≡ over (row * (n + 2)) (n + 2) (risen (n + 1) slot g x) cells
-row-lifted n row slot g x cells row-in lowered inside =
+row-lifted : (n row g x : ℕ) (cells : List ℕ) → row * (n + 2) + n + 1 < length cells → g < 2 → endOf g x ≤ n + 1
+    → lifted (row * (n + 2) + endOf g x) cells ≡ over (row * (n + 2)) (n + 2) (risen (n + 1) g x) cells
+row-lifted n row g x cells row-in lowered inside =
     let base = row * (n + 2) in
     let end = endOf g x in
     let at = base + end in
     let more = getD cells at 0 + 1 in
     let here : getD (part base (n + 2) cells) end 0 ≡ getD cells at 0 = row-at n row cells end (omega arith) in
-    over-lent base (n + 2) (risen (n + 1) slot g x) {l = cells} (omega arith)
+    over-lent base (n + 2) (risen (n + 1) g x) {l = cells} (omega arith)
     (record {
       does =
           ap (take (n + 2)) (drop-set-add base cells end more) ∙ take-set-lt (n + 2) (drop base cells) end more (omega arith)
-          ∙ sym (risen-lowered (n + 1) slot x (part base (n + 2) cells) lowered ∙ ap (λ (y : ℕ). set (part base (n + 2) cells) end (y + 1)) here);
+          ∙ sym (risen-lowered (n + 1) x (part base (n + 2) cells) lowered ∙ ap (λ (y : ℕ). set (part base (n + 2) cells) end (y + 1)) here);
       size = length-set cells at more;
       before = λ i before. getD-set-other cells at i more 0 (λ e. absurd (omega arith));
       after = λ i after. getD-set-other cells at i more 0 (λ e. absurd (omega arith));
@@ -89,7 +89,7 @@ module _ {masks cells trail : List ℕ} {n k slot m : ℕ} (m-is : m ≡ getD ma
           (length-set cells (wordAt n k slot) (getD cells (wordAt n k slot) 0 + 2 ^ (slot % 16))) (raised .2))
 
       pub upper-undone : {g x : ℕ} {cells′ : List ℕ} → g ≡ getD trail (n + slot) 0 → x ≡ getD trail slot 0
-          → cells′ ≡ over ((k + w) * (n + 2)) (n + 2) (risen (n + 1) slot g x) cells₁ → UpperUndone masks cells trail n k slot cells′
+          → cells′ ≡ over ((k + w) * (n + 2)) (n + 2) (risen (n + 1) g x) cells₁ → UpperUndone masks cells trail n k slot cells′
       upper-undone g-is x-is cells-are =
           record {
             restored = λ before raised. cells-are ∙ rw (opens, g-is, x-is) (sym (raised .fixed w (sym m-is ∙ single) .2 .is));
@@ -135,7 +135,7 @@ module _ {masks cells trail : List ℕ} {n k i : ℕ} (undoing : StrikeUndoing m
         (taken .lower))
 
     pub strike-undone : {g x : ℕ} {cells₂ masks′ : List ℕ} → g ≡ tagAt n trail i % 4 → x ≡ noteAt n trail i
-        → cells₂ ≡ over (v * (n + 2)) (n + 2) (risen (n + 1) slot g x) cells₁ → masks′ ≡ putIn masks slot v
+        → cells₂ ≡ over (v * (n + 2)) (n + 2) (risen (n + 1) g x) cells₁ → masks′ ≡ putIn masks slot v
         → StrikeUndone masks cells trail n k i masks′ cells₂
     strike-undone g-is x-is cells-are masks-are =
         record {
@@ -163,7 +163,7 @@ module _ {masks cells trail : List ℕ} {n k i : ℕ} (undoing : StrikeUndoing m
         → StrikeUndone masks cells trail n k i masks′ cells₂
     strike-lifted cells-are masks-are =
         strike-undone refl (strike-several below) refl refl
-        (cells-are ∙ rw at-is (row-lifted n v slot _ _ cells (low-row .row-in) lowered (low-row .raisable .inside lowered))) masks-are
+        (cells-are ∙ rw at-is (row-lifted n v _ _ cells (low-row .row-in) lowered (low-row .raisable .inside lowered))) masks-are
 
   pub strike-value : v < 32
   strike-value = omega (arith, taken .value-in, undoing .sizes .values-fit)

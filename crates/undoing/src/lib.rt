@@ -89,7 +89,7 @@ fn open_slot(cells: &mut [u16], n: usize, k: u32, slot: usize)
 // Takes the fall of a row after the slot back, by its tag and its note.
 fn raise_row(cells: &mut [u16], row: u32, n: usize, slot: usize, tag: usize, note: usize)
     requires { ⌜ RowUndoing (now cells) row n slot tag note ⌝ }
-    ensures { λ _. ⌜ now (cells .exit) ≡ over (row * (n + 2)) (n + 2) (risen (n + 1) slot tag note) (now (cells .entry)) ⌝ }
+    ensures { λ _. ⌜ now (cells .exit) ≡ over (row * (n + 2)) (n + 2) (risen (n + 1) tag note) (now (cells .entry)) ⌝ }
 {
     segments::raise_in(cells, row as usize * (n + 2), n, slot, tag, note);
 }

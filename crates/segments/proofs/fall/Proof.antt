@@ -26,7 +26,7 @@ same-length c = search needs
 
 returns-2 : tie.Need-returns-2
 returns-2 c =
-    fell-none _ _ _ (omega (arith, c .before .before .before .before .before .before .before .pre .0)) (c .before .before .before .before .before .before .before .pre .1) (omega (arith, c .before .before .before .before .wide .ensures .0, c .before .before .before .if1 .left)) (c .before .next-end .ensures .0) (omega arith)
+    fell-none _ _ _ (omega (arith, c .before .before .before .before .before .before .before .pre .0)) (c .before .before .before .before .before .before .before .pre .1) (omega (arith, c .before .before .before .before .wide .ensures .0, c .before .before .before .if1 .left)) (c .before .next-end .ensures .0) (c .before .before .before .before .before .before .before .pre .2) (omega arith)
 
 sub-cells : tie.Need-sub-cells
 sub-cells c = search needs

@@ -26,18 +26,18 @@ same-length c = search needs
 
 returns : tie.Need-returns
 returns c =
-    c .before .before .lift .ensures ∙ sym (risen-lowered _ _ _ _ (c .before .before .before .before .if1 .taken))
+    c .before .before .lift .ensures ∙ sym (risen-lowered _ _ _ (c .before .before .before .before .if1 .taken))
 
 unjoin-requires : tie.Need-unjoin-requires
 unjoin-requires c κs =
-    (c .before .before .before .before .pre .0, c .before .before .before .before .pre .1, c .before .before .before .before .pre .2, c .before .before .before .before .pre .3 .low (c .before .before .if1 .left))
+    (omega (arith, c .before .before .before .before .pre .0, c .before .before .before .before .pre .3 .low (c .before .before .if1 .left)), c .before .before .before .before .pre .1, c .before .before .before .before .pre .2)
 
 same-length-2 : tie.Need-same-length-2
 same-length-2 c = search needs
 
 returns-2 : tie.Need-returns-2
 returns-2 c =
-    c .before .before .unjoin .ensures ∙ sym (risen-joined _ _ _ _ (c .before .before .before .before .if2 .taken))
+    c .before .before .unjoin .ensures ∙ sym (risen-joined _ _ _ (c .before .before .before .before .if2 .taken))
 
 slice-read-wide : tie.Need-slice-read-wide
 slice-read-wide c = search needs
@@ -54,7 +54,7 @@ same-length-3 c = search needs
 
 returns-3 : tie.Need-returns-3
 returns-3 c =
-    c .before .before .unspend .ensures ∙ sym (risen-spent _ _ _ _ (c .before .before .before .before .before .before .before .if1 .left) (c .before .before .before .before .before .before .if2 .left) (c .before .before .before .before .wide .ensures .0))
+    c .before .before .unspend .ensures ∙ sym (risen-spent _ _ _ (c .before .before .before .before .before .before .before .if1 .left) (c .before .before .before .before .before .before .if2 .left) (c .before .before .before .before .wide .ensures .0))
 
 pub raise-spec : {M : Type 1} → statement M
 raise-spec =

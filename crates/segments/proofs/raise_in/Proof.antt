@@ -40,7 +40,7 @@ same-length c = search needs
 returns : tie.Need-returns
 returns c =
     let args = c .before .before .before .before .before .args in
-    over-lent (args .base) (args .n + 2) (risen (args .n + 1) (args .slot) (args .tag) (args .note)) {l = args .cells .now} (omega arith)
+    over-lent (args .base) (args .n + 2) (risen (args .n + 1) (args .tag) (args .note)) {l = args .cells .now} (omega arith)
     (lent _ _ _ _ _ (omega arith) (c .before .before .raise .kept .0) (c .before .before .raise .ensures))
 
 pub raise-in-spec : {M : Type 1} → statement M
