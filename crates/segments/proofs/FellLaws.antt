@@ -23,59 +23,74 @@ use Rattle.segments.specs.Fell.{Quiets, Answer, Fell, Before, Leads}
 
 -- ---- Fell
 
-module _ (n slot : ℕ) (l : List ℕ) where
-  pub fell-clash : slot < getD l 0 0 → Fell n slot l l Clash
-  fell-clash slot<z = record { size = refl; inside = tt; answer = λ C f held. clashed slot held slot<z; reverses = slot<z; barred = refl }
+pub fell-clash : (n slot : ℕ) (l : List ℕ) → slot < getD l 0 0 → Fell n slot l l Clash
+fell-clash n slot l slot<z = record { size = refl; inside = tt; answer = λ C f held. clashed slot held slot<z; reverses = slot<z; barred = refl }
 
-  module _ (slot≤n : slot ≤ n) (n<len : n < length l) (free : getD l 0 0 ≤ slot) {t : ℕ} (found : t ≡ nextOf n slot l) where
-    pub fell-none : n < 1024 → n < t → Fell n slot l l Still
-    fell-none few n<t =
+-- the slot is not before the spent corner, and the search from it ends at t
+pub record Searched (n slot : ℕ) (l : List ℕ) (t : ℕ) : Type 0 where
+  pub slot-in : slot < n
+  pub cells-in : n < length l
+  pub few : n < 1024
+  pub free : getD l 0 0 ≤ slot
+  pub found : t ≡ nextOf n slot l
+
+module _ {n slot : ℕ} {l : List ℕ} {t : ℕ} (search : Searched n slot l t) where
+  slot≤n : slot ≤ n
+  slot≤n = omega arith
+
+  pub searched-after : slot < t
+  searched-after = next-after slot≤n l (search .found)
+
+  pub fell-none : n < t → Fell n slot l l Still
+  fell-none n<t =
+      record {
+        size = refl;
+        inside = tt;
+        answer = λ C f held. quiet-none slot held (search .free) slot≤n (search .cells-in) (search .found) n<t;
+        reverses = reversal-none n slot l slot≤n (search .free) (search .few);
+        barred = search .free;
+      }
+
+  module _ (t≤n : t ≤ n) where
+    pub fell-less : (l′ : List ℕ) (d : ℕ) → d ≡ getD l t 0 → 0 < d → l′ ≡ set l t (d - 1) → Fell n slot l l′ (Lowered t)
+    fell-less l′ d d-is more stored =
+        let more′ : 0 < getD l t 0 = omega arith in
         record {
-          size = refl;
-          inside = tt;
-          answer = λ C f held. quiet-none slot held free slot≤n n<len found n<t;
-          reverses = reversal-none n slot l slot≤n free few;
-          barred = free;
+          size = ap length stored ∙ simp length-set;
+          inside = (omega (arith, searched-after), t≤n);
+          answer = λ C f held. rw (stored, d-is) (quiet-less slot held (search .free) slot≤n (search .cells-in) (search .found) t≤n more′);
+          reverses = λ tag note lowered end.
+              rw (stored, d-is) (reversal-less n slot l slot≤n (search .free) (search .found) t≤n (search .cells-in) more′ tag note lowered end);
+          barred = search .free;
         }
 
-    module _ (t≤n : t ≤ n) where
-      pub fell-less : (l′ : List ℕ) (d : ℕ) → d ≡ getD l t 0 → 0 < d → l′ ≡ set l t (d - 1) → Fell n slot l l′ (Lowered t)
-      fell-less l′ d d-is more stored =
-          let more′ : 0 < getD l t 0 = omega arith in
+    module _ (last : getD l t 0 ≡ 0) {z p : ℕ} (z-is : z ≡ getD l 0 0) (before : Before n z slot l p) (l′ : List ℕ) where
+      pub fell-join : (p ≡ z → ⊥) → l′ ≡ set (set l t (getD l p 0)) p (1024 + (t - p - 1)) → Fell n slot l l′ (Joined p)
+      fell-join found-one stored =
+          let z<p : z < p = omega (arith, found-one, before .from) in
+          let 0<p : 0 < p = omega arith in
+          let prev = latest-end (before .found z<p) z<p in
           record {
             size = ap length stored ∙ simp length-set;
-            inside = (omega (arith, next-after slot≤n l found), t≤n);
-            answer = λ C f held. rw (stored, d-is) (quiet-less slot held free slot≤n n<len found t≤n more′);
-            reverses = λ tag note lowered end. rw (stored, d-is) (reversal-less n slot l slot≤n free found t≤n n<len more′ tag note lowered end);
-            barred = free;
+            inside = tt;
+            answer = λ C f held. rw stored (quiet-join slot held (search .free) slot≤n (search .cells-in) (search .found) t≤n last prev 0<p);
+            reverses = rw stored (reversal-join n slot l slot≤n (search .free) (search .found) t≤n (search .cells-in) last p (prev .before) 0<p);
+            barred = search .free;
           }
 
-      module _ (last : getD l t 0 ≡ 0) {z p : ℕ} (z-is : z ≡ getD l 0 0) (before : Before n z slot l p) (l′ : List ℕ) where
-        pub fell-join : (p ≡ z → ⊥) → l′ ≡ set (set l t (getD l p 0)) p (1024 + (t - p - 1)) → Fell n slot l l′ (Joined p)
-        fell-join found-one stored =
-            let z<p : z < p = omega (arith, found-one, before .from) in
-            let 0<p : 0 < p = omega arith in
-            let prev = latest-end (before .found z<p) z<p in
-            record {
-              size = ap length stored ∙ simp length-set;
-              inside = tt;
-              answer = λ C f held. rw stored (quiet-join slot held free slot≤n n<len found t≤n last prev 0<p);
-              reverses = rw stored (reversal-join n slot l slot≤n free found t≤n n<len last p (prev .before) 0<p);
-              barred = free;
-            }
-
-        pub fell-spend : p ≡ z → l′ ≡ set (set l t 1024) 0 t → Fell n slot l l′ (Reached t z)
-        fell-spend none stored =
-            let first : z ≡ getD (gaps l) 0 0 = z-is ∙ sym (gaps-first l) in
-            record {
-              size = ap length stored ∙ simp length-set;
-              inside = t≤n;
-              answer = λ C f held.
-                  rw stored
-                  (reached-spend slot held free slot≤n n<len found t≤n last (latest-none (held .cells) (rw first at before .linked (held .linked)) (none ∙ first)) refl);
-              reverses = rw (stored, z-is) (reversal-spend n slot l slot≤n free found t≤n n<len last);
-              barred = (free, z-is);
-            }
+      pub fell-spend : p ≡ z → l′ ≡ set (set l t 1024) 0 t → Fell n slot l l′ (Reached t z)
+      fell-spend none stored =
+          let first : z ≡ getD (gaps l) 0 0 = z-is ∙ sym (gaps-first l) in
+          record {
+            size = ap length stored ∙ simp length-set;
+            inside = t≤n;
+            answer = λ C f held.
+                rw stored
+                (reached-spend slot held (search .free) slot≤n (search .cells-in) (search .found) t≤n last
+                (latest-none (held .cells) (rw first at before .linked (held .linked)) (none ∙ first)) refl);
+            reverses = rw (stored, z-is) (reversal-spend n slot l slot≤n (search .free) (search .found) t≤n (search .cells-in) last);
+            barred = (search .free, z-is);
+          }
 
 -- ---- Answer
 

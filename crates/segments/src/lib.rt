@@ -7,7 +7,7 @@ ghost use mathlib.Core.Path.{_≡_};
 ghost use Prim.Native.Nat.{_+_, _-_, _<_, _≤_};
 ghost use lib.ListN.{length, getD, set};
 ghost use Rattle.segments_model.specs.Cells.{standingIn};
-ghost use Rattle.segments_model.specs.Links.{gaps, nextOf};
+ghost use Rattle.segments_model.specs.Links.{gaps};
 ghost use Rattle.segments_model.specs.Part.{part, over, Lent};
 ghost use Rattle.segments_model.specs.Raise.{lifted, parted, risen, Raisable};
 ghost use Rattle.segments_model.specs.Search.{Latest};
@@ -23,12 +23,6 @@ pub enum Hit {
     Reached(usize, usize),
 }
 
-// The first right end after the slot and its cell; or a place after n, and any number.
-struct Found {
-    at: usize,
-    cell: usize,
-}
-
 // Lowers the slack by one at each corner after the slot.
 pub fn fall(cells: &mut [u16], n: usize, slot: usize) -> Hit
     requires { ⌜ (slot < n) × (n < length (now cells)) × (n < 1024) ⌝ }
@@ -38,12 +32,18 @@ pub fn fall(cells: &mut [u16], n: usize, slot: usize) -> Hit
     if slot < z {
         return Hit::Clash;
     }
-    let found = next_end(cells, n, slot);
-    let t = found.at;
+    let mut t = slot + 1 + hop(wide(cells[slot + 1]));
     if n < t {
         return Hit::Still;
     }
-    let d = found.cell;
+    let mut d = wide(cells[t]);
+    while 1024 <= d {
+        t = t + (d - 1023);
+        if n < t {
+            return Hit::Still;
+        }
+        d = wide(cells[t]);
+    }
     if 0 < d {
         cells[t] = (d - 1) as u16;
         return Hit::Lowered(t);
@@ -117,28 +117,14 @@ pub fn standing_in(cells: &[u16], base: usize, n: usize) -> usize
     standing(&cells[base..end], n)
 }
 
-// The first right end after the slot, by the links.
-fn next_end(cells: &[u16], n: usize, slot: usize) -> Found
-    requires { ⌜ (slot < n) × (n < length (now cells)) × (n < 1024) ⌝ }
-    ensures { λ r. ⌜ (r .at ≡ nextOf n slot (now (cells .entry))) × (r .at ≤ n → r .cell ≡ getD (now (cells .entry)) (r .at) 0)
-        × (r .cell < 65536) ⌝ }
+// How far the link c leads; a right end leads nowhere.
+fn hop(c: usize) -> usize
+    ensures { λ r. ⌜ r ≡ c - 1023 ⌝ }
 {
-    let mut t = slot + 1;
-    let mut c = wide(cells[t]);
-    while 1024 <= c {
-        t = t + (c - 1023);
-        if n < t {
-            return found_at(t, c);
-        }
-        c = wide(cells[t]);
+    if c < 1024 {
+        return 0usize;
     }
-    found_at(t, c)
-}
-
-fn found_at(at: usize, cell: usize) -> Found
-    ensures { λ r. ⌜ (r .at ≡ at) × (r .cell ≡ cell) ⌝ }
-{
-    Found { at, cell }
+    c - 1023
 }
 
 // The last right end after z up to the slot, or z, where t is the first one after the slot. Mostly the link after z leads to t, and there is none.

@@ -189,7 +189,7 @@ pub record Seeking (n slot : ℕ) (l : List ℕ) (t : ℕ) : Type 0 where
   pub enough : n < t + left
   pub same : seek left n t l ≡ nextOf n slot l
 
-pub seeking-start : (n slot : ℕ) (l : List ℕ) → slot ≤ n → Seeking n slot l (slot + 1)
+seeking-start : (n slot : ℕ) (l : List ℕ) → slot ≤ n → Seeking n slot l (slot + 1)
 seeking-start n slot l slot≤n = record { left = n - slot; enough = omega arith; same = refl }
 
 module _ {n slot : ℕ} {l : List ℕ} {t : ℕ} (seeking : Seeking n slot l t) where
@@ -200,9 +200,21 @@ module _ {n slot : ℕ} {l : List ℕ} {t : ℕ} (seeking : Seeking n slot l t) 
     pub seeking-end : getD l t 0 < 1024 → t ≡ nextOf n slot l
     seeking-end end = sym (seek-end n t l t≤n (seeking .left) end) ∙ seeking .same
 
-    pub seeking-link : 1024 ≤ getD l t 0 → Seeking n slot l (target t (getD l t 0))
+    seeking-link : 1024 ≤ getD l t 0 → Seeking n slot l (target t (getD l t 0))
     seeking-link link = go (seeking .left) (seeking .enough) (seeking .same)
       where
         go : (left : ℕ) → n < t + left → seek left n t l ≡ nextOf n slot l → Seeking n slot l (target t (getD l t 0))
         go zero enough same = absurd (omega arith)
         go (suc left) enough same = record { left = left; enough = omega arith; same = sym (seek-link n t l t≤n left link) ∙ same }
+
+    -- a link is followed; a right end, 1023 at most, leads nowhere
+    pub seeking-hop : {c : ℕ} → c ≡ getD l t 0 → Seeking n slot l (t + (c - 1023))
+    seeking-hop {c} read =
+        dite (decLt c 1024) (λ end. let stays : t ≡ t + (c - 1023) = omega arith in subst (λ (w : ℕ). Seeking n slot l w) stays seeking)
+        (λ link.
+        let on : target t (getD l t 0) ≡ t + (c - 1023) = omega arith in
+        subst (λ (w : ℕ). Seeking n slot l w) on (seeking-link (omega arith)))
+
+-- the first hop, from the place after the slot
+pub seeking-first : {n slot c h : ℕ} (l : List ℕ) → slot < n → c ≡ getD l (slot + 1) 0 → h ≡ c - 1023 → Seeking n slot l (slot + 1 + h)
+seeking-first {n} {slot} l slot<n read far = rw far (seeking-hop (seeking-start n slot l (omega arith)) (omega arith) read)
