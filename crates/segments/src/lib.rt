@@ -72,7 +72,7 @@ pub fn raise(cells: &mut [u16], n: usize, slot: usize, tag: usize, note: usize)
     ensures { λ _. ⌜ now (cells .exit) ≡ risen n tag note (now (cells .entry)) ⌝ }
 {
     if tag < 2 {
-        lift(cells, note + 256 * tag + 1);
+        lift(cells, note + 2 - tag);
         return;
     }
     if tag == 2 {

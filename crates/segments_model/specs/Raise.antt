@@ -1,6 +1,6 @@
 -- A fall taken back: how the cells were before it, from the cells after it and two numbers, a tag that tells what the fall did and a note of where.
 -- All cells here are stored ones.
---   tags 0, 1, lowered   the gap of the right end `endOf tag note`, note + 256 * tag + 1, fell by one
+--   tags 0, 1, lowered   the gap of the right end `endOf tag note`, note + 2 - tag, fell by one: tag 1 with note 0 is the end 1, and tag 0 any other
 --   tag 2, joined    the right end that the cell at the note links to took over that cell's; a cell that is no link, or leads past n: no cell changed
 --   tag 3, spent     the first segment was spent; the note is the spent corner before
 --   risen n tag note cells       the cells before the fall
@@ -10,13 +10,13 @@
 use mathlib.Core.Path.{_≡_}
 use mathlib.Core.Bool.{cond}
 use mathlib.Core.List.{List}
-use Prim.Native.Nat.{ℕ, _+_, _*_, _≤_, _<_}
+use Prim.Native.Nat.{ℕ, _+_, _-_, _≤_, _<_}
 use lib.Dec.{eqb, ltb}
 use lib.ListN.{getD, set}
 use Rattle.segments_model.specs.Links.{target}
 
 abbrev pub endOf : ℕ → ℕ → ℕ
-endOf tag note = note + 256 * tag + 1
+endOf tag note = note + 2 - tag
 
 abbrev pub lifted : ℕ → List ℕ → List ℕ
 lifted t cells = set cells t (getD cells t 0 + 1)

@@ -4,7 +4,7 @@ use mathlib.Core.Path.{_≡_, ap, subst}
 use mathlib.Core.Bool.{Bool, true, false, cond}
 use mathlib.Core.Logic.{dite}
 use mathlib.Core.List.{List}
-use Prim.Native.Nat.{ℕ, _+_, _-_, _*_, _/_, _%_, _≤_, _<_, zero-le}
+use Prim.Native.Nat.{ℕ, _+_, _-_, _*_, _≤_, _<_, zero-le}
 use native.Mathlib.Nat.{le-refl}
 use native.Mathlib.Decide.{decLt}
 use native.Mathlib.Omega.{arith}
@@ -52,11 +52,12 @@ module _ (n slot : ℕ) (a b : List ℕ) {r : Hit} (fell : Fell (n + 1) slot a b
         from = λ 0<0. absurd (omega arith);
       }
 
-  lowered-drops : n ≤ 256 → (t : ℕ) → r ≡ Lowered t → Dropped n slot a b 0 ((t - 1) / 256) ((t - 1) % 256)
+  -- the right end t is the note and 2, less the tag: 1 for the first, else 0
+  lowered-drops : n ≤ 256 → (t : ℕ) → r ≡ Lowered t → Dropped n slot a b 0 (2 - t) (t + (2 - t) - 2)
   lowered-drops few t is =
       let inside = inside-at (Lowered t) is in
-      quiet-drops ((t - 1) / 256) ((t - 1) % 256) (λ _. omega arith) (answer-at (Lowered t) is)
-      (reverses-at (Lowered t) is ((t - 1) / 256) ((t - 1) % 256) (omega (arith, few, inside)) (omega (arith, inside)))
+      quiet-drops (2 - t) (t + (2 - t) - 2) (λ _. omega (arith, few, inside)) (answer-at (Lowered t) is)
+      (reverses-at (Lowered t) is (2 - t) (t + (2 - t) - 2) (omega (arith, inside)) (omega (arith, inside)))
 
   still-drops : r ≡ Still → Dropped n slot a b 0 2 0
   still-drops is = quiet-drops 2 0 (λ _. omega arith) (answer-at Still is) (reverses-at Still is)
@@ -138,9 +139,10 @@ module _ (row n : ℕ) {slot : ℕ} {l l′ : List ℕ} {r : Hit} (lent : Lent (
   Read clash q g x = Lent (row * (n + 2)) (n + 2) (λ a b. Dropped n slot a b q g x) l l′ × Told slot (getD l (row * (n + 2)) 0) l l′ clash
 
   module _ {clash : Bool} {q g x : ℕ} where
-    pub dropped-lowered : {t : ℕ} → n ≤ 256 → r ≡ Lowered t → (clash ≡ false) × (q ≡ 0) × (g ≡ (t - 1) / 256) × (x ≡ (t - 1) % 256) → Read clash q g x
-    dropped-lowered {t} few is are =
-        rw (are .0, are .1, are .2, are .3)
+    pub dropped-lowered : {t first : ℕ} → n ≤ 256 → r ≡ Lowered t → first ≡ 2 - t → (clash ≡ false) × (q ≡ 0) × (g ≡ first) × (x ≡ t + first - 2)
+        → Read clash q g x
+    dropped-lowered {t} few is first-is are =
+        rw (are .0, are .1, are .2, are .3, first-is)
         (lent-map (λ a b fell. lowered-drops n slot a b fell few t is) lent, rw (row-first n row l) at (barred-at (Lowered t) is))
 
     pub dropped-still : r ≡ Still → (clash ≡ false) × (q ≡ 0) × (g ≡ 2) × (x ≡ 0) → Read clash q g x

@@ -3,7 +3,7 @@
 // filter_model.
 ghost use mathlib.Core.Path.{_≡_};
 ghost use mathlib.Core.Bool.{true, false, cond};
-ghost use Prim.Native.Nat.{ℕ, _+_, _*_, _<_, _≤_};
+ghost use Prim.Native.Nat.{ℕ, _+_, _*_, _-_, _<_, _≤_};
 ghost use lib.Dec.{eqb, ltb};
 ghost use lib.Count.{ones};
 ghost use lib.ListN.{length, getD, set};
@@ -209,7 +209,8 @@ fn fall_row(cells: &mut [u16], row: u32, n: usize, slot: usize) -> Descent
     let hit = segments::fall_in(cells, row as usize * (n + 2), n, slot);
     match hit {
         segments::Hit::Lowered(t) => {
-            return fell_by(false, 0, (t - 1) / 256, (t - 1) % 256);
+            let g = first_end(t);
+            return fell_by(false, 0, g, t + g - 2);
         }
         segments::Hit::Still => {
             return fell_by(false, 0, 2, 0);
@@ -224,6 +225,17 @@ fn fall_row(cells: &mut [u16], row: u32, n: usize, slot: usize) -> Descent
             return fell_by(false, up_to(n, t), 3, z);
         }
     }
+}
+
+// The tag of a lowered right end t: 1 for the first, else 0.
+fn first_end(t: usize) -> usize
+    requires { ⌜ 0 < t ⌝ }
+    ensures { λ r. ⌜ r ≡ 2 - t ⌝ }
+{
+    if t < 2 {
+        return 1usize;
+    }
+    0
 }
 
 // t, or 0 where it is after n.

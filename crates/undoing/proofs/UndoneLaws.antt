@@ -95,16 +95,19 @@ module _ {masks cells trail : List ℕ} {n k slot m : ℕ} (m-is : m ≡ getD ma
             restored = λ before raised. cells-are ∙ rw (opens, g-is, x-is) (sym (raised .fixed w (sym m-is ∙ single) .2 .is));
           }
 
--- ---- a second byte below 64
-module _ {both b : ℕ} (both-is : both ≡ b) (short : both < 64) where
+-- ---- a second byte below 32: a value, with the tag 0
+module _ {both b : ℕ} (both-is : both ≡ b) (short : both < 32) where
+  pub short-value : both ≡ b % 32
+  short-value = omega arith
+
   pub short-several : b / 32 < 4
   short-several = omega arith
 
   pub short-tag : b / 32 % 4 < 2
   short-tag = omega arith
 
-  pub short-end : {note x : ℕ} → note ≡ x → note + 256 * (both / 32) + 1 ≡ endOf (b / 32 % 4) x
-  short-end note-is = omega arith
+  pub short-end : (base : ℕ) {note x : ℕ} → note ≡ x → base + note + 2 ≡ base + endOf (b / 32 % 4) x
+  short-end base note-is = omega arith
 
 -- ---- one strike; slot, v, the tag g and the note x are what its three bytes tell
 module _ {masks cells trail : List ℕ} {n k i : ℕ} (undoing : StrikeUndoing masks cells trail n k i) {slot v : ℕ}

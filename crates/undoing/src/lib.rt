@@ -30,7 +30,7 @@ pub fn undo(
     }
 }
 
-// Takes the strike i back, the latest that is left. Most often it lowered a right end and left several values: the first case.
+// Takes the strike i back, the latest that is left. Most often it lowered a right end after 1 and left several values, the tag 0: the first case.
 fn take_back(masks: &mut [u32], cells: &mut [u16], trail: &[u8], n: usize, k: u32, i: usize)
     requires { ⌜ StrikeUndoing (now masks) (now cells) (now trail) n k i ⌝ }
     ensures { λ _. ⌜ StrikeUndone (now (masks .entry)) (now (cells .entry)) (now (trail .entry)) n k i (now (masks .exit)) (now (cells .exit)) ⌝ }
@@ -39,9 +39,9 @@ fn take_back(masks: &mut [u32], cells: &mut [u16], trail: &[u8], n: usize, k: u3
     let slot = wide(trail[p]);
     let both = wide(trail[p + 1]);
     let note = wide(trail[p + 2]);
-    if both < 64 {
-        lift_cell(cells, both % 32 * (n + 2) + (note + 256 * (both / 32) + 1));
-        put_in(masks, slot, (both % 32) as u32);
+    if both < 32 {
+        lift_cell(cells, both * (n + 2) + note + 2);
+        put_in(masks, slot, both as u32);
         return;
     }
     let v = (both % 32) as u32;

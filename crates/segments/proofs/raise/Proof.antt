@@ -6,16 +6,11 @@ use borrow.Author.Needs.{needs}
 use Rattle.segments.proofs.raise.Statement.{statement}
 use Rattle.segments.proofs.raise.Tie as tie
 
-mul-lift : tie.Need-mul-lift
-mul-lift c = search needs
-
 add-lift : tie.Need-add-lift
-add-lift c =
-    omega (arith, c .before .before .before .pre .2, c .before .before .before .pre .3 .inside (c .before .if1 .taken))
+add-lift c = omega (arith, c .before .before .before .pre .2, c .before .before .before .pre .3 .inside (c .before .if1 .taken))
 
-add-lift-2 : tie.Need-add-lift-2
-add-lift-2 c =
-    omega (arith, c .before .before .before .pre .2, c .before .before .before .pre .3 .inside (c .before .if1 .taken))
+sub-lift : tie.Need-sub-lift
+sub-lift c = search needs
 
 lift-requires : tie.Need-lift-requires
 lift-requires c κs =
@@ -60,9 +55,8 @@ pub raise-spec : {M : Type 1} → statement M
 raise-spec =
     tie.close
     (tie.spec
-    mul-lift
     add-lift
-    add-lift-2
+    sub-lift
     lift-requires
     same-length
     returns

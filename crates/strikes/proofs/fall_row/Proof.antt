@@ -19,13 +19,15 @@ fall-in-requires c κs = search needs
 enum-known-hit : tie.Need-enum-known-hit
 enum-known-hit c = search needs
 
-sub-fell-by : tie.Need-sub-fell-by
-sub-fell-by c =
-    omega (arith, lowered-after (c .before .before .before .before .before .before .before .before .args .row) (c .before .before .before .before .before .before .before .before .args .n) (c .before .before .before .before .before .fall-in .ensures) (c .before .hit .given .1))
+first-end-requires : tie.Need-first-end-requires
+first-end-requires c κs =
+    lowered-after (c .before .before .before .before .before .before .before .before .args .row) (c .before .before .before .before .before .before .before .before .args .n) (c .before .before .before .before .before .fall-in .ensures) (c .before .hit .given .1)
 
-sub-fell-by-2 : tie.Need-sub-fell-by-2
-sub-fell-by-2 c =
-    omega (arith, lowered-after (c .before .before .before .before .before .before .before .before .args .row) (c .before .before .before .before .before .before .before .before .args .n) (c .before .before .before .before .before .fall-in .ensures) (c .before .hit .given .1))
+add-fell-by : tie.Need-add-fell-by
+add-fell-by c = search needs
+
+sub-fell-by : tie.Need-sub-fell-by
+sub-fell-by c = search needs
 
 fell-by-requires : tie.Need-fell-by-requires
 fell-by-requires c κs = search needs
@@ -35,7 +37,7 @@ same-length c = search needs
 
 returns : tie.Need-returns
 returns c =
-    dropped-lowered (c .before .before .before .before .before .before .before .before .before .args .row) (c .before .before .before .before .before .before .before .before .before .args .n) (c .before .before .before .before .before .before .fall-in .ensures) (c .before .before .before .before .before .before .before .before .before .pre .2) (c .before .before .hit .given .1) (c .fell-by .ensures)
+    dropped-lowered (c .before .before .before .before .before .before .before .before .before .before .args .row) (c .before .before .before .before .before .before .before .before .before .before .args .n) (c .before .before .before .before .before .before .before .fall-in .ensures) (c .before .before .before .before .before .before .before .before .before .before .pre .2) (c .before .before .before .hit .given .1) (c .before .first-end .ensures) (c .fell-by .ensures)
 
 enum-told : tie.Need-enum-told
 enum-told c = search needs
@@ -101,8 +103,9 @@ fall-row-spec =
     mul-fall-in
     fall-in-requires
     enum-known-hit
+    first-end-requires
+    add-fell-by
     sub-fell-by
-    sub-fell-by-2
     fell-by-requires
     same-length
     returns

@@ -14,6 +14,7 @@ use Rattle.undoing.proofs.UndoneLaws.{
   strike-undone,
   strike-lift,
   strike-lifted,
+  short-value,
   short-tag,
   short-several,
   short-end,
@@ -60,27 +61,21 @@ add-lift-cell c = search needs
 
 -- the place of the right end that was lowered
 place-in : (c : tie.After-lift-cell-arg)
-    → (c .before .before .before .before .wide2 .result % 32 * (c .before .before .before .before .before .before .before .before .before .before .before .args .n + 2) + (c .before .before .wide3 .result + 256 * (c .before .before .before .before .wide2 .result / 32) + 1) < length (c .before .before .before .before .before .before .before .before .before .before .before .args .cells .now))
-    × (getD (c .before .before .before .before .before .before .before .before .before .before .before .args .cells .now) (c .before .before .before .before .wide2 .result % 32 * (c .before .before .before .before .before .before .before .before .before .before .before .args .n + 2) + (c .before .before .wide3 .result + 256 * (c .before .before .before .before .wide2 .result / 32) + 1)) 0 < 1024)
+    → (c .before .before .before .before .wide2 .result * (c .before .before .before .before .before .before .before .before .before .before .before .args .n + 2) + c .before .before .wide3 .result + 2 < length (c .before .before .before .before .before .before .before .before .before .before .before .args .cells .now))
+    × (getD (c .before .before .before .before .before .before .before .before .before .before .before .args .cells .now) (c .before .before .before .before .wide2 .result * (c .before .before .before .before .before .before .before .before .before .before .before .args .n + 2) + c .before .before .wide3 .result + 2) 0 < 1024)
 place-in c =
     let both = c .before .before .before .before .wide2 .ensures in
     let short = c .before .if1 .taken in
-    strike-lift (c .before .before .before .before .before .before .before .before .before .before .before .pre) (c .before .before .before .before .before .before .wide .ensures) (ap (λ (b : ℕ). b % 32) both) (short-several both short) (short-tag both short) (ap (λ (e : ℕ). c .before .before .before .before .wide2 .result % 32 * (c .before .before .before .before .before .before .before .before .before .before .before .args .n + 2) + e) (short-end both short (c .before .before .wide3 .ensures)))
+    strike-lift (c .before .before .before .before .before .before .before .before .before .before .before .pre) (c .before .before .before .before .before .before .wide .ensures) (short-value both short) (short-several both short) (short-tag both short) (short-end both short (c .before .before .before .before .wide2 .result * (c .before .before .before .before .before .before .before .before .before .before .before .args .n + 2)) (c .before .before .wide3 .ensures))
 
 mul-lift-cell : tie.Need-mul-lift-cell
 mul-lift-cell c = omega (arith, place-in c .0)
-
-mul-lift-cell-2 : tie.Need-mul-lift-cell-2
-mul-lift-cell-2 c = search needs
 
 add-lift-cell-2 : tie.Need-add-lift-cell-2
 add-lift-cell-2 c = omega (arith, place-in c .0)
 
 add-lift-cell-3 : tie.Need-add-lift-cell-3
 add-lift-cell-3 c = omega (arith, place-in c .0)
-
-add-lift-cell-4 : tie.Need-add-lift-cell-4
-add-lift-cell-4 c = omega (arith, place-in c .0)
 
 lift-cell-requires : tie.Need-lift-cell-requires
 lift-cell-requires c κs = place-in c
@@ -90,7 +85,7 @@ cast-put-in c = search needs
 
 put-in-requires : tie.Need-put-in-requires
 put-in-requires c κs =
-    strike-put (c .before .before .before .before .before .before .before .before .before .before .before .before .before .before .before .pre) (c .before .before .before .before .before .before .before .before .before .before .wide .ensures) (ap (λ (b : ℕ). b % 32) (c .before .before .before .before .before .before .before .before .wide2 .ensures))
+    strike-put (c .before .before .before .before .before .before .before .before .before .before .before .before .before .before .before .pre) (c .before .before .before .before .before .before .before .before .before .before .wide .ensures) (short-value (c .before .before .before .before .before .before .before .before .wide2 .ensures) (c .before .before .before .before .before .if1 .taken))
 
 same-length : tie.Need-same-length
 same-length c = search needs
@@ -102,7 +97,7 @@ returns : tie.Need-returns
 returns c =
     let both = c .before .before .before .before .before .before .before .before .before .before .before .wide2 .ensures in
     let short = c .before .before .before .before .before .before .before .before .if1 .taken in
-    strike-lifted (c .before .before .before .before .before .before .before .before .before .before .before .before .before .before .before .before .before .before .pre) (c .before .before .before .before .before .before .before .before .before .before .before .before .before .wide .ensures) (ap (λ (b : ℕ). b % 32) both) (short-several both short) (short-tag both short) (ap (λ (e : ℕ). c .before .before .before .before .before .before .before .before .before .before .before .wide2 .result % 32 * (c .before .before .before .before .before .before .before .before .before .before .before .before .before .before .before .before .before .before .args .n + 2) + e) (short-end both short (c .before .before .before .before .before .before .before .before .before .wide3 .ensures)))
+    strike-lifted (c .before .before .before .before .before .before .before .before .before .before .before .before .before .before .before .before .before .before .pre) (c .before .before .before .before .before .before .before .before .before .before .before .before .before .wide .ensures) (short-value both short) (short-several both short) (short-tag both short) (short-end both short (c .before .before .before .before .before .before .before .before .before .before .before .wide2 .result * (c .before .before .before .before .before .before .before .before .before .before .before .before .before .before .before .before .before .before .args .n + 2)) (c .before .before .before .before .before .before .before .before .before .wide3 .ensures))
     (c .before .before .before .before .before .before .lift-cell .ensures) (c .before .before .put-in .ensures)
 
 cast-v : tie.Need-cast-v
@@ -164,10 +159,8 @@ take-back-spec =
     wide-requires-3
     add-lift-cell
     mul-lift-cell
-    mul-lift-cell-2
     add-lift-cell-2
     add-lift-cell-3
-    add-lift-cell-4
     lift-cell-requires
     cast-put-in
     put-in-requires
