@@ -46,6 +46,21 @@ testBit-from m d i d≤i =
     ap (λ (x : ℕ). x % 2)
     (halves (m - m % 2 ^ d) ∙ ap (λ (x : ℕ). x / 2 ^ d / 2 ^ (i - d)) left ∙ ap (λ (x : ℕ). x / 2 ^ (i - d)) (shl-shr (m / 2 ^ d) d) ∙ sym (halves m))
 
+-- two words as one have the bits of the one, then those of the other
+pub testBit-words-low : (lo hi i : ℕ) → lo < 65536 → i < 16 → testBit (lo + 65536 * hi) i ≡ testBit lo i
+testBit-words-low lo hi i lo<65536 i<16 =
+    let low-is : (lo + 65536 * hi) % 65536 ≡ lo = omega arith in
+    sym (testBit-before (lo + 65536 * hi) 16 i i<16) ∙ ap (λ (m : ℕ). testBit m i) low-is
+
+pub testBit-words-high : (lo hi i : ℕ) → lo < 65536 → 16 ≤ i → testBit (lo + 65536 * hi) i ≡ testBit hi (i - 16)
+unfolding testBit
+testBit-words-high lo hi i lo<65536 16≤i =
+    let at : 16 + (i - 16) ≡ i = omega arith in
+    let high-is : (lo + 65536 * hi) / 65536 ≡ hi = omega arith in
+    ap (λ (j : ℕ). (lo + 65536 * hi) / 2 ^ j % 2) (sym at)
+    ∙ ap (λ (x : ℕ). x % 2) (sym (shr-shr (lo + 65536 * hi) 16 (i - 16)))
+    ∙ ap (λ (x : ℕ). x / 2 ^ (i - 16) % 2) high-is
+
 -- ---- wordAt
 pub word-inside : (n k slot : ℕ) (cells : List ℕ) → slot < 256 → cellsSize n k ≤ length cells → wordAt n k slot < length cells
 word-inside n k slot cells slot<256 fits = omega arith

@@ -3,8 +3,8 @@
 --   wordAt, openBit              the place of a slot's word, and the slot's bit in it
 --   closeSlot, openSlot          the cells with the slot's bit taken out, and with it put in
 --   OpenSlots n k M cells        each slot that has two values or more in M is in the set
---   BlockAsked, OpenBlock        a word b that may be asked for, from a start on and before an end; r is that word as a mask: no slot from the end
---                                on, and each slot of the set from the start on before the end
+--   BlockAsked, OpenBlock        a block b, the 32 slots from 32 * b on, that may be asked for, from a start on and before an end; r is a mask of
+--                                it, bit i for slot 32 * b + i: no slot from the end on, and each slot of the set from the start on before the end
 -- Assumes nothing.
 use mathlib.Core.Path.{_≡_}
 use mathlib.Core.List.{List}
@@ -39,9 +39,9 @@ pub record BlockAsked (cells : List ℕ) (n k b start end : ℕ) : Type 0 where
   pub slots-fit : n ≤ 256
   pub values-fit : k ≤ 32
   pub end-in : end ≤ n
-  pub start-in : start < 16 * b + 16
+  pub start-in : start < 32 * b + 32
 
 pub record OpenBlock (n k : ℕ) (cells : List ℕ) (b start end r : ℕ) : Type 0 where
-  pub word : r < 65536
-  pub before : (i : ℕ) → Has r i → 16 * b + i < end
-  pub each : (s : ℕ) → start ≤ s → s < end → s / 16 ≡ b → openBit n k cells s ≡ 1 → Has r (s - 16 * b)
+  pub word : r < 4294967296
+  pub before : (i : ℕ) → Has r i → 32 * b + i < end
+  pub each : (s : ℕ) → start ≤ s → s < end → s / 32 ≡ b → openBit n k cells s ≡ 1 → Has r (s - 32 * b)
