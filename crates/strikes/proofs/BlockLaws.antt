@@ -1,33 +1,36 @@
--- The laws of `OpenBlock` of filter_model's `specs/Open.antt`: an end before the block (`block-none`), and its word without the bits before the
--- start (`from-bits`) and from the end on (`word-bits`, `before-bits`), which is `block-bits`. No contract cites this file. Assumes nothing.
+-- The laws of `OpenBlock` of filter_model's `specs/Open.antt`: an end before the block (`block-none`), and its two words as one (`words-bit`)
+-- without the bits before the start (`from-bits`) and from the end on (`word-bits`, `before-bits`), which is `block-bits`. No contract cites this
+-- file. Assumes nothing.
 use mathlib.Core.Path.{_≡_, refl, sym, ap, _∙_}
+use mathlib.Core.Logic.{dite}
 use mathlib.Core.List.{List}
 use Prim.Native.Nat.{ℕ, _+_, _-_, _*_, _/_, _%_, _^_, _≤_, _<_}
+use native.Mathlib.Decide.{ℕ-discrete}
 use native.Mathlib.Nat.{lt-of-not-le, mod-le, sub-le}
 use native.Mathlib.Omega.{arith}
 use lib.ListN.{getD}
 use Rattle.domains.specs.Mask.{testBit, Has}
 use Rattle.domains.proofs.MaskLaws.{testBit-empty, testBit-high}
-use Rattle.filter_model.specs.Open.{wordsAt, OpenBlock}
-use Rattle.filter_model.proofs.OpenLaws.{testBit-before, testBit-before-high, testBit-from}
+use Rattle.filter_model.specs.Open.{wordsAt, wordAt, openBit, OpenBlock}
+use Rattle.filter_model.proofs.OpenLaws.{testBit-before, testBit-before-high, testBit-from, testBit-words-low, testBit-words-high}
 
 -- ---- the bits of a word, where bit 0 stands for `base`
 abbrev pub From : ℕ → ℕ → ℕ → ℕ → Type 0
 From x base start r = (r ≤ x) × ((i : ℕ) → start ≤ base + i → testBit r i ≡ testBit x i)
 
 abbrev pub Before : ℕ → ℕ → ℕ → ℕ → Type 0
-Before x base end r = (r < 65536) × ((i : ℕ) → Has r i → base + i < end) × ((i : ℕ) → base + i < end → testBit r i ≡ testBit x i)
+Before x base end r = (r < 4294967296) × ((i : ℕ) → Has r i → base + i < end) × ((i : ℕ) → base + i < end → testBit r i ≡ testBit x i)
 
 pub from-bits : (x base start y : ℕ) → base < start → y ≡ 2 ^ (start - base) → From x base start (x - x % y)
 from-bits x base start y base<start y-is =
     rw y-is (sub-le x (x % 2 ^ (start - base)), λ i start≤. testBit-from x (start - base) i (omega arith))
 
-pub word-bits : (x base end : ℕ) → x < 65536 → base + 16 ≤ end → Before x base end x
-word-bits x base end x<65536 long =
-    (x<65536, λ i has. lt-of-not-le (λ past. absurd (omega (arith, has, testBit-high 16 x i x<65536 (omega arith)))), λ i before. refl)
+pub word-bits : (x base end : ℕ) → x < 4294967296 → base + 32 ≤ end → Before x base end x
+word-bits x base end x-fits long =
+    (x-fits, λ i has. lt-of-not-le (λ past. absurd (omega (arith, has, testBit-high 32 x i x-fits (omega arith)))), λ i before. refl)
 
-pub before-bits : (x base end y : ℕ) → x < 65536 → y ≡ 2 ^ (end - base) → Before x base end (x % y)
-before-bits x base end y x<65536 y-is =
+pub before-bits : (x base end y : ℕ) → x < 4294967296 → y ≡ 2 ^ (end - base) → Before x base end (x % y)
+before-bits x base end y x-fits y-is =
     rw y-is (
       omega (arith, mod-le x (2 ^ (end - base))),
       λ i has. omega (arith, testBit-before-high x (end - base) i has),
@@ -36,7 +39,7 @@ before-bits x base end y x<65536 y-is =
 
 -- ---- OpenBlock
 module _ (n k : ℕ) (cells : List ℕ) (b start end : ℕ) where
-  pub block-none : (end + 15) / 16 ≤ b → OpenBlock n k cells b start end 0
+  pub block-none : (end + 31) / 32 ≤ b → OpenBlock n k cells b start end 0
   block-none past =
       record {
         word = omega arith;
@@ -44,14 +47,34 @@ module _ (n k : ℕ) (cells : List ℕ) (b start end : ℕ) where
         each = λ s start≤s s<end here. absurd (omega arith);
       }
 
-  pub block-bits : {x y r : ℕ} → x ≡ getD cells (wordsAt n k + b) 0 → From x (16 * b) start y → Before y (16 * b) end r
+  abbrev low : ℕ
+  low = getD cells (wordsAt n k + 2 * b) 0
+
+  abbrev high : ℕ
+  high = getD cells (wordsAt n k + 2 * b + 1) 0
+
+  -- a slot's bit is the one of the two words as one
+  words-bit : (s : ℕ) → low < 65536 → s / 32 ≡ b → openBit n k cells s ≡ testBit (low + 65536 * high) (s - 32 * b)
+  words-bit s low<65536 here =
+      dite (ℕ-discrete (s / 16) (2 * b))
+      (λ first.
+      let bit : s % 16 ≡ s - 32 * b = omega arith in
+      rw (first, bit) (sym (testBit-words-low low high (s - 32 * b) low<65536 (omega arith))))
+      (λ other.
+      let second : wordAt n k s ≡ wordsAt n k + 2 * b + 1 = omega arith in
+      let bit : s % 16 ≡ s - 32 * b - 16 = omega arith in
+      rw (second, bit) (sym (testBit-words-high low high (s - 32 * b) low<65536 (omega arith))))
+
+  pub block-bits : {x y r : ℕ} → (x ≡ low + 65536 * high) × (low < 65536) → From x (32 * b) start y → Before y (32 * b) end r
       → OpenBlock n k cells b start end r
-  block-bits {x} {y} {r} x-is from before =
+  block-bits {x} {y} {r} word from before =
       record {
         word = before .0;
         before = before .1;
         each = λ s start≤s s<end here in-set.
-            let bit : s % 16 ≡ s - 16 * b = omega arith in
-            let at : testBit (getD cells (wordsAt n k + b) 0) (s - 16 * b) ≡ 1 = rw (here, bit) at in-set in
-            before .2 (s - 16 * b) (omega arith) ∙ from .1 (s - 16 * b) (omega arith) ∙ rw x-is at;
+            before .2 (s - 32 * b) (omega arith)
+            ∙ from .1 (s - 32 * b) (omega arith)
+            ∙ ap (λ (m : ℕ). testBit m (s - 32 * b)) (word .0)
+            ∙ sym (words-bit s (word .1) here)
+            ∙ in-set;
       }

@@ -156,29 +156,31 @@ pub fn other_values(masks: &[u32], slot: usize, v: u32) -> u32
     domains::less(m, v)
 }
 
-// The open slots of block b from `start` on and before `end`, as a mask: bit i is slot 16 * b + i.
+// The open slots of block b from `start` on and before `end`, as a mask: bit i is slot 32 * b + i.
 pub fn open_block(cells: &[u16], n: usize, k: u32, b: usize, start: usize, end: usize) -> u32
     requires { ⌜ BlockAsked (now cells) n k b start end ⌝ }
     ensures { λ r. ⌜ OpenBlock n k (now (cells .entry)) b start end r ⌝ }
 {
-    if (end + 15) / 16 <= b {
+    if (end + 31) / 32 <= b {
         return 0u32;
     }
     let x = word(cells, n, k, b);
-    bits_before(bits_from(x, 16 * b, start), 16 * b, end)
+    bits_before(bits_from(x, 32 * b, start), 32 * b, end)
 }
 
-// A word of the set of open slots.
+// The two words of block b of the set of open slots, as one.
 fn word(cells: &[u16], n: usize, k: u32, b: usize) -> u32
-    requires { ⌜ (wordsAt n k + b < length (now cells)) × (n ≤ 256) × (k ≤ 32) ⌝ }
-    ensures { λ r. ⌜ (r ≡ getD (now (cells .entry)) (wordsAt n k + b) 0) × (r < 65536) ⌝ }
+    requires { ⌜ (wordsAt n k + 2 * b + 1 < length (now cells)) × (n ≤ 256) × (k ≤ 32) ⌝ }
+    ensures { λ r. ⌜ (r ≡ getD (now (cells .entry)) (wordsAt n k + 2 * b) 0 + 65536 * getD (now (cells .entry)) (wordsAt n k + 2 * b + 1) 0)
+        × (getD (now (cells .entry)) (wordsAt n k + 2 * b) 0 < 65536) ⌝ }
 {
-    bits_of(cells[(k + k) as usize * (n + 2) + b])
+    let at = (k + k) as usize * (n + 2) + 2 * b;
+    bits_of(cells[at]) + 65536 * bits_of(cells[at + 1])
 }
 
 // The bits of a word from `start` on, where bit 0 stands for `base`.
 fn bits_from(x: u32, base: usize, start: usize) -> u32
-    requires { ⌜ start < base + 16 ⌝ }
+    requires { ⌜ start < base + 32 ⌝ }
     ensures { λ r. ⌜ (r ≤ x) × ((i : ℕ) → start ≤ base + i → testBit r i ≡ testBit x i) ⌝ }
 {
     if start <= base {
@@ -190,10 +192,10 @@ fn bits_from(x: u32, base: usize, start: usize) -> u32
 
 // The bits of a word before `end`, where bit 0 stands for `base`.
 fn bits_before(x: u32, base: usize, end: usize) -> u32
-    requires { ⌜ (x < 65536) × (base ≤ end) × (end ≤ 256) ⌝ }
-    ensures { λ r. ⌜ (r < 65536) × ((i : ℕ) → Has r i → base + i < end) × ((i : ℕ) → base + i < end → testBit r i ≡ testBit x i) ⌝ }
+    requires { ⌜ (base ≤ end) × (end ≤ 256) ⌝ }
+    ensures { λ r. ⌜ (r < 4294967296) × ((i : ℕ) → Has r i → base + i < end) × ((i : ℕ) → base + i < end → testBit r i ≡ testBit x i) ⌝ }
 {
-    if base + 16 <= end {
+    if base + 32 <= end {
         return x;
     }
     let e = (end - base) as u32;

@@ -12,7 +12,7 @@ add-if1 c = search needs
 
 returns : tie.Need-returns
 returns c =
-    word-bits _ _ _ (c .before .pre .0) (c .if1 .taken)
+    word-bits (c .before .args .x) _ _ (omega (arith, c .before .fits .x)) (c .if1 .taken)
 
 sub-e : tie.Need-sub-e
 sub-e c = search needs
@@ -29,7 +29,7 @@ rem-result c =
 
 returns-2 : tie.Need-returns-2
 returns-2 c =
-    before-bits _ (c .before .before .args .base) (c .before .before .args .end) _ (c .before .before .pre .0) (c .only .ensures)
+    before-bits (c .before .before .args .x) (c .before .before .args .base) (c .before .before .args .end) _ (omega (arith, c .before .before .fits .x)) (c .only .ensures)
 
 pub bits-before-spec : {M : Type 1} → statement M
 bits-before-spec =

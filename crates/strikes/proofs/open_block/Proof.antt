@@ -1,4 +1,4 @@
--- `strikes::open_block` meets its contract: the end is before the block (`block-none`), or the block's word is cut to the slots from the start on
+-- `strikes::open_block` meets its contract: the end is before the block (`block-none`), or the block's two words are cut to the slots from the start on
 -- and before the end (`block-bits`). Assumes nothing.
 use Rattle.strikes.proofs.BlockLaws.{block-none, block-bits}
 use borrow.Author.Needs.{needs}
@@ -29,7 +29,7 @@ bits-before-requires c κs = search needs
 
 returns-2 : tie.Need-returns-2
 returns-2 c =
-    block-bits _ _ _ (c .before .before .before .before .before .args .b) (c .before .before .before .before .before .args .start) (c .before .before .before .before .before .args .end) (c .before .before .word .ensures .0) (c .before .bits-from .ensures) (c .bits-before .ensures)
+    block-bits _ _ _ (c .before .before .before .before .before .args .b) (c .before .before .before .before .before .args .start) (c .before .before .before .before .before .args .end) (c .before .before .word .ensures) (c .before .bits-from .ensures) (c .bits-before .ensures)
 
 pub open-block-spec : {M : Type 1} → statement M
 open-block-spec =
