@@ -25,17 +25,17 @@ use Rattle.filter_model.proofs.StoreLaws.{single-has-fixed}
 
 -- ---- the slots of a block that are left
 pub record Left (start end b x : ℕ) : Type 0 where
-  pub word : x < 65536
-  pub before : (i : ℕ) → Has x i → 16 * b + i < end
-  pub start-in : start < 16 * b + 16
+  pub word : x < 4294967296
+  pub before : (i : ℕ) → Has x i → 32 * b + i < end
+  pub start-in : start < 32 * b + 32
 
-pub left-block : {n k : ℕ} {cells : List ℕ} {start end b x : ℕ} → start < 16 * b + 16 → OpenBlock n k cells b start end x → Left start end b x
+pub left-block : {n k : ℕ} {cells : List ℕ} {start end b x : ℕ} → start < 32 * b + 32 → OpenBlock n k cells b start end x → Left start end b x
 left-block start-in block = record { word = block .word; before = block .before; start-in = start-in }
 
 -- one of them is taken
 module _ {start end b x : ℕ} (left : Left start end b x) (w : ℕ) (has : Has x w) where
-  pub left-bit : w < 16
-  left-bit = lt-of-not-le (λ 16≤w. absurd (omega (arith, has, testBit-high 16 x w (left .word) 16≤w)))
+  pub left-bit : w < 32
+  left-bit = lt-of-not-le (λ 32≤w. absurd (omega (arith, has, testBit-high 32 x w (left .word) 32≤w)))
 
   module _ {y : ℕ} (y-is : y ≡ clearBit x w) where
     pub left-less : y < x
@@ -52,7 +52,7 @@ module _ {start end b x : ℕ} (left : Left start end b x) (w : ℕ) (has : Has 
 
 -- what the reading of a block needs
 pub block-asked : {masks cells trail masks′ cells′ trail′ : List ℕ} {n k top h v end start b : ℕ} → Pruning masks cells trail n k top v end
-    → World masks′ cells′ trail′ n k h → start < 16 * b + 16 → BlockAsked cells′ n k b start end
+    → World masks′ cells′ trail′ n k h → start < 32 * b + 32 → BlockAsked cells′ n k b start end
 block-asked pruning world start-in =
     record {
       rows = world .rows;
@@ -75,22 +75,22 @@ cut-settled false M v s cut = λ has. absurd (lacks-not-has M s v (cut .lacks) h
 
 -- ---- Swept
 pub record Swept (M : List ℕ) (v start end b x : ℕ) : Type 0 where
-  pub each : (s : ℕ) → start ≤ s → s < end → s / 16 ≤ b → (s / 16 ≡ b → testBit x (s - 16 * b) ≡ 0) → SettledAt M s v
+  pub each : (s : ℕ) → start ≤ s → s < end → s / 32 ≤ b → (s / 32 ≡ b → testBit x (s - 32 * b) ≡ 0) → SettledAt M s v
 
 -- a block that was just read, those before it being settled
 swept-read : {n k : ℕ} {M cells : List ℕ} {v start end b x : ℕ} → end ≤ n → OpenSlots n k M cells → OpenBlock n k cells b start end x
-    → ((s : ℕ) → start ≤ s → s < end → s / 16 < b → SettledAt M s v) → Swept M v start end b x
+    → ((s : ℕ) → start ≤ s → s < end → s / 32 < b → SettledAt M s v) → Swept M v start end b x
 swept-read {M = M} {v = v} {b = b} end≤n opens block earlier =
     record {
       each = λ s start≤s s<end s-in none.
-          dite (ℕ-discrete (s / 16) b)
+          dite (ℕ-discrete (s / 32) b)
           (λ here.
           few-settled (getD M s 0) v
           (λ many. omega (arith, none here, block .each s start≤s s<end here (opens .each s (omega arith) many))))
           (λ other. earlier s start≤s s<end (omega arith));
     }
 
-pub swept-first : {n k : ℕ} {M cells : List ℕ} {v start end b x : ℕ} → b ≡ start / 16 → end ≤ n → OpenSlots n k M cells
+pub swept-first : {n k : ℕ} {M cells : List ℕ} {v start end b x : ℕ} → b ≡ start / 32 → end ≤ n → OpenSlots n k M cells
     → OpenBlock n k cells b start end x → Swept M v start end b x
 swept-first b-is end≤n opens block = swept-read end≤n opens block (λ s start≤s s<end s-before. absurd (omega (arith, b-is)))
 
@@ -98,10 +98,10 @@ pub swept-block : {n k : ℕ} {M cells : List ℕ} {v start end b x y : ℕ} →
     → OpenBlock n k cells (b + 1) start end y → Swept M v start end (b + 1) y
 swept-block {b = b} end≤n opens x≡0 swept block =
     swept-read end≤n opens block
-    (λ s start≤s s<end s-before. swept .each s start≤s s<end (omega arith) (λ here. rw x≡0 (testBit-empty (s - 16 * b))))
+    (λ s start≤s s<end s-before. swept .each s start≤s s<end (omega arith) (λ here. rw x≡0 (testBit-empty (s - 32 * b))))
 
 -- one slot more
-pub swept-slot : {M M′ : List ℕ} {v start end b x y s : ℕ} (w : ℕ) → y ≡ clearBit x w → s ≡ 16 * b + w → Subset M′ M → SettledAt M′ s v
+pub swept-slot : {M M′ : List ℕ} {v start end b x y s : ℕ} (w : ℕ) → y ≡ clearBit x w → s ≡ 32 * b + w → Subset M′ M → SettledAt M′ s v
     → Swept M v start end b x → Swept M′ v start end b y
 swept-slot {M} {M′} {v} {b = b} {x = x} {s = slot} w y-is slot-is M′⊆M settled swept =
     rw y-is
@@ -111,13 +111,13 @@ swept-slot {M} {M′} {v} {b = b} {x = x} {s = slot} w y-is slot-is M′⊆M set
           (λ other.
           settled-at-subset M′⊆M s v
           (swept .each s start≤s s<end s-in
-          (λ here. sym (testBit-clearBit-other x w (s - 16 * b) (λ e. other (omega arith))) ∙ none here)));
+          (λ here. sym (testBit-clearBit-other x w (s - 32 * b) (λ e. other (omega arith))) ∙ none here)));
     })
 
-pub swept-cut : (kind : Bool) {M M′ : List ℕ} {v start end b x y s : ℕ} (w : ℕ) → y ≡ clearBit x w → s ≡ 16 * b + w → Subset M′ M
+pub swept-cut : (kind : Bool) {M M′ : List ℕ} {v start end b x y s : ℕ} (w : ℕ) → y ≡ clearBit x w → s ≡ 32 * b + w → Subset M′ M
     → SlotCut kind s v M′ → Swept M v start end b x → Swept M′ v start end b y
 swept-cut kind {M′ = M′} {v = v} {s = s} w y-is slot-is M′⊆M cut swept = swept-slot w y-is slot-is M′⊆M (cut-settled kind M′ v s cut) swept
 
-pub swept-end : {M : List ℕ} {v start end b x : ℕ} → (end + 15) / 16 ≤ b → Swept M v start end b x → SettledFrom M v start end
+pub swept-end : {M : List ℕ} {v start end b x : ℕ} → (end + 31) / 32 ≤ b → Swept M v start end b x → SettledFrom M v start end
 swept-end past swept =
     record { each = λ s start≤s s<end. swept .each s start≤s s<end (omega arith) (λ here. absurd (omega arith)) }

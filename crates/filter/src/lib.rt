@@ -119,8 +119,8 @@ fn follow(
     strike_free(masks, cells, trail, n, k, height(p), w, y, b)
 }
 
-// Where the lower bound of v is met at `end`: fixes each free slot from `start` on before it to v. It looks at the open slots alone, a word of
-// their set at a time.
+// Where the lower bound of v is met at `end`: fixes each free slot from `start` on before it to v. It looks at the open slots alone, a
+// block of their set at a time.
 pub fn fix_free(
     masks: &mut [u32],
     cells: &mut [u16],
@@ -137,9 +137,9 @@ pub fn fix_free(
         (now (masks .entry)) (now (cells .entry)) (now (trail .entry)) top (now (masks .exit)) (now (cells .exit)) (now (trail .exit)) (outcomeOf r) ⌝ }
 {
     let mut h = top;
-    let mut b = start / 16;
+    let mut b = start / 32;
     let mut word = strikes::open_block(cells, n, k, b, start, end);
-    while b < (end + 15) / 16 {
+    while b < (end + 31) / 32 {
         if word == 0 {
             b += 1;
             word = strikes::open_block(cells, n, k, b, start, end);
@@ -147,7 +147,7 @@ pub fn fix_free(
         }
         let w = domains::lowest(word);
         word = domains::less(word, w);
-        let s = 16 * b + w as usize;
+        let s = 32 * b + w as usize;
         if !strikes::is_free(masks, s, v) {
             continue;
         }
@@ -177,9 +177,9 @@ pub fn strike_free(
         (now (masks .entry)) (now (cells .entry)) (now (trail .entry)) top (now (masks .exit)) (now (cells .exit)) (now (trail .exit)) (outcomeOf r) ⌝ }
 {
     let mut h = top;
-    let mut b = start / 16;
+    let mut b = start / 32;
     let mut word = strikes::open_block(cells, n, k, b, start, end);
-    while b < (end + 15) / 16 {
+    while b < (end + 31) / 32 {
         if word == 0 {
             b += 1;
             word = strikes::open_block(cells, n, k, b, start, end);
@@ -187,7 +187,7 @@ pub fn strike_free(
         }
         let w = domains::lowest(word);
         word = domains::less(word, w);
-        let slot = 16 * b + w as usize;
+        let slot = 32 * b + w as usize;
         if !strikes::is_free(masks, slot, v) {
             continue;
         }

@@ -382,7 +382,7 @@ abbrev fix-free-Inv-loop : fix-free-lts.InvT-loop
 fix-free-Inv-loop masks₀ cells₀ trail₀ n k top v start end h₀ b₀ word₀ masks cells trail h b word = FreeInv true n k v start end masks₀ cells₀ trail₀ h₀ masks cells trail h b word
 
 abbrev fix-free-μ-loop : fix-free-lts.MeasureT-loop
-fix-free-μ-loop masks₀ cells₀ trail₀ n k top v start end h₀ b₀ word₀ masks cells trail h b word = 65536 * (end - 16 * b) + word
+fix-free-μ-loop masks₀ cells₀ trail₀ n k top v start end h₀ b₀ word₀ masks cells trail h b word = 4294967296 * (end - 32 * b) + word
 
 fix-free-open-block-requires : (t : ℕ) → fix-free-lts.Need-open-block-requires (fix-free-calls t) (fix-free-at t) fix-free.Post fix-free-Inv-loop fix-free-μ-loop
 fix-free-open-block-requires t c κs = block-asked (c .before .before .before .before .pre .1) (c .before .before .before .before .pre .1 .world) (omega arith)
@@ -474,7 +474,7 @@ fix-free-returns : (t : ℕ) → fix-free-lts.Need-returns (fix-free-calls t) (f
 fix-free-returns t c =
     let done = c .before .before .before .before .before .before .before .before .before .before .before .before .before .before .before .before .before .before .before .loop .inv .done in
     let args = c .before .before .before .before .before .before .before .before .before .before .before .before .before .before .before .before .before .before .before .before .before .before .before .before .before .args in
-    let slot = 16 * c .before .before .before .before .before .before .before .before .before .before .before .before .before .before .before .before .before .before .before .loop .b + c .before .before .before .before .before .before .before .before .before .before .before .before .before .before .before .before .lowest .result in
+    let slot = 32 * c .before .before .before .before .before .before .before .before .before .before .before .before .before .before .before .before .before .before .before .loop .b + c .before .before .before .before .before .before .before .before .before .before .before .before .before .before .before .before .lowest .result in
     let free = free-yes _ _ {r = c .before .before .before .before .before .before .before .before .before .before .before .before .before .is-free .result} (not-false _ (c .before .before .before .before .before .before .before .before .before .before .before .before .if2 .left)) (c .before .before .before .before .before .before .before .before .before .before .before .before .before .is-free .ensures) in
     let asks = free-concerned true (done .moved .within) slot (args .v) (free .0) (free .1) in
     filtered-stop (c .before .is-dead .ensures) (c .if3 .taken) done (c .before .before .before .before .before .before .before .before .fix .ensures) (λ N cut. cut .each slot (c .before .before .before .before .before .before .before .before .before .before .before .before .before .before .before .before .before .before .before .loop .inv .left .before (c .before .before .before .before .before .before .before .before .before .before .before .before .before .before .before .before .lowest .result) (c .before .before .before .before .before .before .before .before .before .before .before .before .before .before .before .before .lowest .ensures .1 .has)) asks)
@@ -489,7 +489,7 @@ fix-free-loop-again-3 : (t : ℕ) → fix-free-lts.Need-loop-again-3 (fix-free-c
 fix-free-loop-again-3 t c =
     let done = c .before .before .before .before .before .before .before .before .before .before .before .before .before .before .before .before .before .before .before .before .loop .inv .done in
     let args = c .before .before .before .before .before .before .before .before .before .before .before .before .before .before .before .before .before .before .before .before .before .before .before .before .before .before .args in
-    let slot = 16 * c .before .before .before .before .before .before .before .before .before .before .before .before .before .before .before .before .before .before .before .before .loop .b + c .before .before .before .before .before .before .before .before .before .before .before .before .before .before .before .before .before .lowest .result in
+    let slot = 32 * c .before .before .before .before .before .before .before .before .before .before .before .before .before .before .before .before .before .before .before .before .loop .b + c .before .before .before .before .before .before .before .before .before .before .before .before .before .before .before .before .before .lowest .result in
     let free = free-yes _ _ {r = c .before .before .before .before .before .before .before .before .before .before .before .before .before .before .is-free .result} (not-false _ (c .before .before .before .before .before .before .before .before .before .before .before .before .before .if2 .left)) (c .before .before .before .before .before .before .before .before .before .before .before .before .before .before .is-free .ensures) in
     let asks = free-concerned true (done .moved .within) slot (args .v) (free .0) (free .1) in
     record {
@@ -636,7 +636,7 @@ abbrev strike-free-Inv-loop : strike-free-lts.InvT-loop
 strike-free-Inv-loop masks₀ cells₀ trail₀ n k top v start end h₀ b₀ word₀ masks cells trail h b word = FreeInv false n k v start end masks₀ cells₀ trail₀ h₀ masks cells trail h b word
 
 abbrev strike-free-μ-loop : strike-free-lts.MeasureT-loop
-strike-free-μ-loop masks₀ cells₀ trail₀ n k top v start end h₀ b₀ word₀ masks cells trail h b word = 65536 * (end - 16 * b) + word
+strike-free-μ-loop masks₀ cells₀ trail₀ n k top v start end h₀ b₀ word₀ masks cells trail h b word = 4294967296 * (end - 32 * b) + word
 
 strike-free-open-block-requires : (t : ℕ) → strike-free-lts.Need-open-block-requires (strike-free-calls t) (strike-free-at t) strike-free.Post strike-free-Inv-loop strike-free-μ-loop
 strike-free-open-block-requires t c κs = block-asked (c .before .before .before .before .pre .1) (c .before .before .before .before .pre .1 .world) (omega arith)
@@ -733,7 +733,7 @@ strike-free-returns : (t : ℕ) → strike-free-lts.Need-returns (strike-free-ca
 strike-free-returns t c =
     let done = c .before .before .before .before .before .before .before .before .before .before .before .before .before .before .before .before .before .before .before .before .before .before .loop .inv .done in
     let args = c .before .before .before .before .before .before .before .before .before .before .before .before .before .before .before .before .before .before .before .before .before .before .before .before .before .before .before .before .args in
-    let slot = 16 * c .before .before .before .before .before .before .before .before .before .before .before .before .before .before .before .before .before .before .before .before .before .before .loop .b + c .before .before .before .before .before .before .before .before .before .before .before .before .before .before .before .before .before .before .before .lowest .result in
+    let slot = 32 * c .before .before .before .before .before .before .before .before .before .before .before .before .before .before .before .before .before .before .before .before .before .before .loop .b + c .before .before .before .before .before .before .before .before .before .before .before .before .before .before .before .before .before .before .before .lowest .result in
     let free = free-yes _ _ {r = c .before .before .before .before .before .before .before .before .before .before .before .before .before .before .before .before .is-free .result} (not-false _ (c .before .before .before .before .before .before .before .before .before .before .before .before .before .before .before .if2 .left)) (c .before .before .before .before .before .before .before .before .before .before .before .before .before .before .before .before .is-free .ensures) in
     let asks = free-concerned false (done .moved .within) slot (args .v) (free .0) (free .1) in
     filtered-stop (c .before .is-dead .ensures) (c .if4 .taken) done (c .before .before .before .before .before .before .before .before .strike .ensures) (λ N cut. cut .each slot (c .before .before .before .before .before .before .before .before .before .before .before .before .before .before .before .before .before .before .before .before .before .before .loop .inv .left .before (c .before .before .before .before .before .before .before .before .before .before .before .before .before .before .before .before .before .before .before .lowest .result) (c .before .before .before .before .before .before .before .before .before .before .before .before .before .before .before .before .before .before .before .lowest .ensures .1 .has)) asks)
@@ -748,7 +748,7 @@ strike-free-loop-again-3 : (t : ℕ) → strike-free-lts.Need-loop-again-3 (stri
 strike-free-loop-again-3 t c =
     let done = c .before .before .before .before .before .before .before .before .before .before .before .before .before .before .before .before .before .before .before .before .before .before .before .loop .inv .done in
     let args = c .before .before .before .before .before .before .before .before .before .before .before .before .before .before .before .before .before .before .before .before .before .before .before .before .before .before .before .before .before .args in
-    let slot = 16 * c .before .before .before .before .before .before .before .before .before .before .before .before .before .before .before .before .before .before .before .before .before .before .before .loop .b + c .before .before .before .before .before .before .before .before .before .before .before .before .before .before .before .before .before .before .before .before .lowest .result in
+    let slot = 32 * c .before .before .before .before .before .before .before .before .before .before .before .before .before .before .before .before .before .before .before .before .before .before .before .loop .b + c .before .before .before .before .before .before .before .before .before .before .before .before .before .before .before .before .before .before .before .before .lowest .result in
     let free = free-yes _ _ {r = c .before .before .before .before .before .before .before .before .before .before .before .before .before .before .before .before .before .is-free .result} (not-false _ (c .before .before .before .before .before .before .before .before .before .before .before .before .before .before .before .before .if2 .left)) (c .before .before .before .before .before .before .before .before .before .before .before .before .before .before .before .before .before .is-free .ensures) in
     let asks = free-concerned false (done .moved .within) slot (args .v) (free .0) (free .1) in
     record {
@@ -792,7 +792,7 @@ strike-free-returns-2 : (t : ℕ) → strike-free-lts.Need-returns-2 (strike-fre
 strike-free-returns-2 t c =
     let done = c .before .before .before .before .before .before .before .before .before .before .before .before .before .before .before .before .before .before .before .before .before .before .before .before .loop .inv .done in
     let args = c .before .before .before .before .before .before .before .before .before .before .before .before .before .before .before .before .before .before .before .before .before .before .before .before .before .before .before .before .before .before .args in
-    let slot = 16 * c .before .before .before .before .before .before .before .before .before .before .before .before .before .before .before .before .before .before .before .before .before .before .before .before .loop .b + c .before .before .before .before .before .before .before .before .before .before .before .before .before .before .before .before .before .before .before .before .before .lowest .result in
+    let slot = 32 * c .before .before .before .before .before .before .before .before .before .before .before .before .before .before .before .before .before .before .before .before .before .before .before .before .loop .b + c .before .before .before .before .before .before .before .before .before .before .before .before .before .before .before .before .before .before .before .before .before .lowest .result in
     let free = free-yes _ _ {r = c .before .before .before .before .before .before .before .before .before .before .before .before .before .before .before .before .before .before .is-free .result} (not-false _ (c .before .before .before .before .before .before .before .before .before .before .before .before .before .before .before .before .before .if2 .left)) (c .before .before .before .before .before .before .before .before .before .before .before .before .before .before .before .before .before .before .is-free .ensures) in
     let asks = free-concerned false (done .moved .within) slot (args .v) (free .0) (free .1) in
     filtered-at (sym (c .dead-at .ensures)) (filtered-more done (strike-contradicted {G = λ (M : List ℕ). Unit {0}} (thinned-clash _ _ _ _ _ (c .before .before .before .before .before .before .before .before .before .before .before .before .before .before .before .before .before .before .before .before .before .before .before .before .loop .h) _ _ _ _ _ _ _ (c .before .before .before .before .before .before .before .before .thin .ensures) (c .before .if5 .taken))) (λ N cut. cut .each slot (c .before .before .before .before .before .before .before .before .before .before .before .before .before .before .before .before .before .before .before .before .before .before .before .before .loop .inv .left .before (c .before .before .before .before .before .before .before .before .before .before .before .before .before .before .before .before .before .before .before .before .before .lowest .result) (c .before .before .before .before .before .before .before .before .before .before .before .before .before .before .before .before .before .before .before .before .before .lowest .ensures .1 .has)) asks)
@@ -821,7 +821,7 @@ strike-free-loop-again-4 t c =
     let removed = thinned-made _ _ _ _ _ (c .before .before .before .before .before .before .before .before .before .before .before .before .before .before .before .before .before .before .before .before .before .before .before .before .before .loop .h) _ _ _ _ _ _ _ (c .before .before .before .before .before .before .before .before .before .thin .ensures) (c .before .before .if5 .left) in
     let done = c .before .before .before .before .before .before .before .before .before .before .before .before .before .before .before .before .before .before .before .before .before .before .before .before .before .loop .inv .done in
     let args = c .before .before .before .before .before .before .before .before .before .before .before .before .before .before .before .before .before .before .before .before .before .before .before .before .before .before .before .before .before .before .before .args in
-    let slot = 16 * c .before .before .before .before .before .before .before .before .before .before .before .before .before .before .before .before .before .before .before .before .before .before .before .before .before .loop .b + c .before .before .before .before .before .before .before .before .before .before .before .before .before .before .before .before .before .before .before .before .before .before .lowest .result in
+    let slot = 32 * c .before .before .before .before .before .before .before .before .before .before .before .before .before .before .before .before .before .before .before .before .before .before .before .before .before .loop .b + c .before .before .before .before .before .before .before .before .before .before .before .before .before .before .before .before .before .before .before .before .before .before .lowest .result in
     let free = free-yes _ _ {r = c .before .before .before .before .before .before .before .before .before .before .before .before .before .before .before .before .before .before .before .is-free .result} (not-false _ (c .before .before .before .before .before .before .before .before .before .before .before .before .before .before .before .before .before .before .if2 .left)) (c .before .before .before .before .before .before .before .before .before .before .before .before .before .before .before .before .before .before .before .is-free .ensures) in
     let asks = free-concerned false (done .moved .within) slot (args .v) (free .0) (free .1) in
     record {
@@ -853,7 +853,7 @@ strike-free-returns-3 t c =
     let removed = thinned-made _ _ _ _ _ (c .before .before .before .before .before .before .before .before .before .before .before .before .before .before .before .before .before .before .before .before .before .before .before .before .before .before .before .before .before .before .before .before .before .before .before .before .before .loop .h) _ _ _ _ _ _ _ (c .before .before .before .before .before .before .before .before .before .before .before .before .before .before .before .before .before .before .before .before .before .thin .ensures) (c .before .before .before .before .before .before .before .before .before .before .before .before .before .before .if5 .left) in
     let done = c .before .before .before .before .before .before .before .before .before .before .before .before .before .before .before .before .before .before .before .before .before .before .before .before .before .before .before .before .before .before .before .before .before .before .before .before .before .loop .inv .done in
     let args = c .before .before .before .before .before .before .before .before .before .before .before .before .before .before .before .before .before .before .before .before .before .before .before .before .before .before .before .before .before .before .before .before .before .before .before .before .before .before .before .before .before .before .before .args in
-    let slot = 16 * c .before .before .before .before .before .before .before .before .before .before .before .before .before .before .before .before .before .before .before .before .before .before .before .before .before .before .before .before .before .before .before .before .before .before .before .before .before .loop .b + c .before .before .before .before .before .before .before .before .before .before .before .before .before .before .before .before .before .before .before .before .before .before .before .before .before .before .before .before .before .before .before .before .before .before .lowest .result in
+    let slot = 32 * c .before .before .before .before .before .before .before .before .before .before .before .before .before .before .before .before .before .before .before .before .before .before .before .before .before .before .before .before .before .before .before .before .before .before .before .before .before .loop .b + c .before .before .before .before .before .before .before .before .before .before .before .before .before .before .before .before .before .before .before .before .before .before .before .before .before .before .before .before .before .before .before .before .before .before .lowest .result in
     let free = free-yes _ _ {r = c .before .before .before .before .before .before .before .before .before .before .before .before .before .before .before .before .before .before .before .before .before .before .before .before .before .before .before .before .before .before .before .is-free .result} (not-false _ (c .before .before .before .before .before .before .before .before .before .before .before .before .before .before .before .before .before .before .before .before .before .before .before .before .before .before .before .before .before .before .if2 .left)) (c .before .before .before .before .before .before .before .before .before .before .before .before .before .before .before .before .before .before .before .before .before .before .before .before .before .before .before .before .before .before .before .is-free .ensures) in
     let asks = free-concerned false (done .moved .within) slot (args .v) (free .0) (free .1) in
     filtered-stop (c .before .is-dead2 .ensures) (c .if7 .taken) done (thin-followed removed (c .before .before .before .before .before .before .before .before .fix-free .ensures)) (λ N cut. cut .each slot (c .before .before .before .before .before .before .before .before .before .before .before .before .before .before .before .before .before .before .before .before .before .before .before .before .before .before .before .before .before .before .before .before .before .before .before .before .before .loop .inv .left .before (c .before .before .before .before .before .before .before .before .before .before .before .before .before .before .before .before .before .before .before .before .before .before .before .before .before .before .before .before .before .before .before .before .before .before .lowest .result) (c .before .before .before .before .before .before .before .before .before .before .before .before .before .before .before .before .before .before .before .before .before .before .before .before .before .before .before .before .before .before .before .before .before .before .lowest .ensures .1 .has)) asks)
@@ -870,7 +870,7 @@ strike-free-loop-again-5 t c =
     let followed = filtered-live (c .before .before .is-dead2 .ensures) (c .before .if7 .left) (c .height2 .ensures) (thin-followed removed (c .before .before .before .before .before .before .before .before .before .fix-free .ensures)) in
     let done = c .before .before .before .before .before .before .before .before .before .before .before .before .before .before .before .before .before .before .before .before .before .before .before .before .before .before .before .before .before .before .before .before .before .before .before .before .before .before .loop .inv .done in
     let args = c .before .before .before .before .before .before .before .before .before .before .before .before .before .before .before .before .before .before .before .before .before .before .before .before .before .before .before .before .before .before .before .before .before .before .before .before .before .before .before .before .before .before .before .before .args in
-    let slot = 16 * c .before .before .before .before .before .before .before .before .before .before .before .before .before .before .before .before .before .before .before .before .before .before .before .before .before .before .before .before .before .before .before .before .before .before .before .before .before .before .loop .b + c .before .before .before .before .before .before .before .before .before .before .before .before .before .before .before .before .before .before .before .before .before .before .before .before .before .before .before .before .before .before .before .before .before .before .before .lowest .result in
+    let slot = 32 * c .before .before .before .before .before .before .before .before .before .before .before .before .before .before .before .before .before .before .before .before .before .before .before .before .before .before .before .before .before .before .before .before .before .before .before .before .before .before .loop .b + c .before .before .before .before .before .before .before .before .before .before .before .before .before .before .before .before .before .before .before .before .before .before .before .before .before .before .before .before .before .before .before .before .before .before .before .lowest .result in
     let free = free-yes _ _ {r = c .before .before .before .before .before .before .before .before .before .before .before .before .before .before .before .before .before .before .before .before .before .before .before .before .before .before .before .before .before .before .before .before .is-free .result} (not-false _ (c .before .before .before .before .before .before .before .before .before .before .before .before .before .before .before .before .before .before .before .before .before .before .before .before .before .before .before .before .before .before .before .if2 .left)) (c .before .before .before .before .before .before .before .before .before .before .before .before .before .before .before .before .before .before .before .before .before .before .before .before .before .before .before .before .before .before .before .before .is-free .ensures) in
     let asks = free-concerned false (done .moved .within) slot (args .v) (free .0) (free .1) in
     record {
