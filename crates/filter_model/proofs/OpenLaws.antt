@@ -10,11 +10,11 @@ use native.Mathlib.Decide.{ℕ-discrete}
 use native.Mathlib.Nat.{lt-of-lt-of-le, lt-of-not-le, mod-lt}
 use native.Mathlib.Omega.{arith}
 use lib.Count.{ones}
-use lib.Pow.{pow-pos, shl-shr, shr-shr, split, field, mod-mod-pow}
+use lib.Pow.{pow-pos, shl-shr, shr-shr, split, low, field, mod-mod-pow}
 use lib.ListN.{length, getD, set, length-set}
 use lib.Seq.{getD-set-same, getD-set-other, set-getD, set-set}
 use Rattle.domains.specs.Mask.{testBit, clearBit}
-use Rattle.domains.proofs.MaskLaws.{testBit-high, testBit-clearBit-same, testBit-clearBit-other, clearBit-has, ones-subset}
+use Rattle.domains.proofs.MaskLaws.{testBit-empty, testBit-high, testBit-clearBit-same, testBit-clearBit-other, clearBit-has, ones-subset}
 use Rattle.domains.proofs.MasksLaws.{subset-clearBit}
 use Rattle.segments_model.specs.Part.{part, Lent}
 use Rattle.segments_model.proofs.PartLaws.{lent-apart}
@@ -36,7 +36,7 @@ pub testBit-before-high : (m e i : ℕ) → testBit (m % 2 ^ e) i ≡ 1 → i < 
 testBit-before-high m e i has =
     lt-of-not-le (λ e≤i. absurd (omega (arith, has, testBit-high e (m % 2 ^ e) i (mod-lt m (pow-pos e)) e≤i)))
 
--- m without what is below 2 ^ d has the bits from d on
+-- m without what is below 2 ^ d has the bits from d on, and no others
 pub testBit-from : (m d i : ℕ) → d ≤ i → testBit (m - m % 2 ^ d) i ≡ testBit m i
 unfolding testBit
 testBit-from m d i d≤i =
@@ -45,6 +45,14 @@ testBit-from m d i d≤i =
     let halves : (x : ℕ) → x / 2 ^ i ≡ x / 2 ^ d / 2 ^ (i - d) = λ x. ap (λ (j : ℕ). x / 2 ^ j) (sym at) ∙ sym (shr-shr x d (i - d)) in
     ap (λ (x : ℕ). x % 2)
     (halves (m - m % 2 ^ d) ∙ ap (λ (x : ℕ). x / 2 ^ d / 2 ^ (i - d)) left ∙ ap (λ (x : ℕ). x / 2 ^ (i - d)) (shl-shr (m / 2 ^ d) d) ∙ sym (halves m))
+
+pub testBit-from-low : (m d i : ℕ) → testBit (m - m % 2 ^ d) i ≡ 1 → d ≤ i
+testBit-from-low m d i has =
+    let left : m - m % 2 ^ d ≡ m / 2 ^ d * 2 ^ d + 0 = omega (arith, split m d) in
+    let none : (m - m % 2 ^ d) % 2 ^ d ≡ 0 = rw left (low (m / 2 ^ d) d (pow-pos d)) in
+    let not-before : i < d → ⊥ =
+    λ i<d. omega (arith, has, testBit-before (m - m % 2 ^ d) d i i<d, ap (λ (x : ℕ). testBit x i) none, testBit-empty i) in
+    omega (arith, not-before)
 
 -- two words as one have the bits of the one, then those of the other
 pub testBit-words-low : (lo hi i : ℕ) → lo < 65536 → i < 16 → testBit (lo + 65536 * hi) i ≡ testBit lo i

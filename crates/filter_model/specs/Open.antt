@@ -4,7 +4,7 @@
 --   closeSlot, openSlot          the cells with the slot's bit taken out, and with it put in
 --   OpenSlots n k M cells        each slot that has two values or more in M is in the set
 --   BlockAsked, OpenBlock        a block b, the 32 slots from 32 * b on, that may be asked for, from a start on and before an end; r is a mask of
---                                it, bit i for slot 32 * b + i: no slot from the end on, and each slot of the set from the start on before the end
+--                                it, bit i for slot 32 * b + i: the slots of the set from the start on before the end, and no others
 -- Assumes nothing.
 use mathlib.Core.Path.{_≡_}
 use mathlib.Core.List.{List}
@@ -43,5 +43,7 @@ pub record BlockAsked (cells : List ℕ) (n k b start end : ℕ) : Type 0 where
 
 pub record OpenBlock (n k : ℕ) (cells : List ℕ) (b start end r : ℕ) : Type 0 where
   pub word : r < 4294967296
+  pub from : (i : ℕ) → Has r i → start ≤ 32 * b + i
   pub before : (i : ℕ) → Has r i → 32 * b + i < end
+  pub only : (i : ℕ) → Has r i → openBit n k cells (32 * b + i) ≡ 1
   pub each : (s : ℕ) → start ≤ s → s < end → s / 32 ≡ b → openBit n k cells s ≡ 1 → Has r (s - 32 * b)

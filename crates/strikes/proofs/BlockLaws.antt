@@ -6,24 +6,27 @@ use mathlib.Core.Logic.{dite}
 use mathlib.Core.List.{List}
 use Prim.Native.Nat.{ℕ, _+_, _-_, _*_, _/_, _%_, _^_, _≤_, _<_}
 use native.Mathlib.Decide.{ℕ-discrete}
-use native.Mathlib.Nat.{lt-of-not-le, mod-le, sub-le}
+use native.Mathlib.Nat.{lt-of-not-le, mod-le}
 use native.Mathlib.Omega.{arith}
 use lib.ListN.{getD}
 use Rattle.domains.specs.Mask.{testBit, Has}
 use Rattle.domains.proofs.MaskLaws.{testBit-empty, testBit-high}
 use Rattle.filter_model.specs.Open.{wordsAt, wordAt, openBit, OpenBlock}
-use Rattle.filter_model.proofs.OpenLaws.{testBit-before, testBit-before-high, testBit-from, testBit-words-low, testBit-words-high}
+use Rattle.filter_model.proofs.OpenLaws.{testBit-before, testBit-before-high, testBit-from, testBit-from-low, testBit-words-low, testBit-words-high}
 
 -- ---- the bits of a word, where bit 0 stands for `base`
 abbrev pub From : ℕ → ℕ → ℕ → ℕ → Type 0
-From x base start r = (r ≤ x) × ((i : ℕ) → start ≤ base + i → testBit r i ≡ testBit x i)
+From x base start r = ((i : ℕ) → Has r i → start ≤ base + i) × ((i : ℕ) → start ≤ base + i → testBit r i ≡ testBit x i)
 
 abbrev pub Before : ℕ → ℕ → ℕ → ℕ → Type 0
 Before x base end r = (r < 4294967296) × ((i : ℕ) → Has r i → base + i < end) × ((i : ℕ) → base + i < end → testBit r i ≡ testBit x i)
 
 pub from-bits : (x base start y : ℕ) → base < start → y ≡ 2 ^ (start - base) → From x base start (x - x % y)
 from-bits x base start y base<start y-is =
-    rw y-is (sub-le x (x % 2 ^ (start - base)), λ i start≤. testBit-from x (start - base) i (omega arith))
+    rw y-is (
+      λ i has. omega (arith, testBit-from-low x (start - base) i has),
+      λ i start≤. testBit-from x (start - base) i (omega arith),
+    )
 
 pub word-bits : (x base end : ℕ) → x < 4294967296 → base + 32 ≤ end → Before x base end x
 word-bits x base end x-fits long =
@@ -43,7 +46,9 @@ module _ (n k : ℕ) (cells : List ℕ) (b start end : ℕ) where
   block-none past =
       record {
         word = omega arith;
+        from = λ i has. absurd (omega (arith, has, testBit-empty i));
         before = λ i has. absurd (omega (arith, has, testBit-empty i));
+        only = λ i has. absurd (omega (arith, has, testBit-empty i));
         each = λ s start≤s s<end here. absurd (omega arith);
       }
 
@@ -65,12 +70,20 @@ module _ (n k : ℕ) (cells : List ℕ) (b start end : ℕ) where
       let bit : s % 16 ≡ s - 32 * b - 16 = omega arith in
       rw (second, bit) (sym (testBit-words-high low high (s - 32 * b) low<65536 (omega arith))))
 
-  pub block-bits : {x y r : ℕ} → (x ≡ low + 65536 * high) × (low < 65536) → From x (32 * b) start y → Before y (32 * b) end r
+  pub block-bits : {x r : ℕ} (y : ℕ) → (x ≡ low + 65536 * high) × (low < 65536) → From x (32 * b) start y → Before y (32 * b) end r
       → OpenBlock n k cells b start end r
-  block-bits {x} {y} {r} word from before =
+  block-bits {x} {r} y word from before =
+      let kept : (i : ℕ) → Has r i → Has y i = λ i has. sym (before .2 i (before .1 i has)) ∙ has in
+      let started : (i : ℕ) → Has r i → start ≤ 32 * b + i = λ i has. from .0 i (kept i has) in
       record {
         word = before .0;
+        from = started;
         before = before .1;
+        only = λ i has.
+            let i<32 : i < 32 = lt-of-not-le (λ past. absurd (omega (arith, has, testBit-high 32 r i (before .0) past))) in
+            let at : 32 * b + i - 32 * b ≡ i = omega arith in
+            words-bit (32 * b + i) (word .1) (omega arith)
+            ∙ rw (at, sym (word .0)) (sym (from .1 i (started i has)) ∙ kept i has);
         each = λ s start≤s s<end here in-set.
             before .2 (s - 32 * b) (omega arith)
             ∙ from .1 (s - 32 * b) (omega arith)

@@ -181,7 +181,7 @@ fn word(cells: &[u16], n: usize, k: u32, b: usize) -> u32
 // The bits of a word from `start` on, where bit 0 stands for `base`.
 fn bits_from(x: u32, base: usize, start: usize) -> u32
     requires { ⌜ start < base + 32 ⌝ }
-    ensures { λ r. ⌜ (r ≤ x) × ((i : ℕ) → start ≤ base + i → testBit r i ≡ testBit x i) ⌝ }
+    ensures { λ r. ⌜ ((i : ℕ) → Has r i → start ≤ base + i) × ((i : ℕ) → start ≤ base + i → testBit r i ≡ testBit x i) ⌝ }
 {
     if start <= base {
         return x;

@@ -29,7 +29,7 @@ bits-before-requires c κs = search needs
 
 returns-2 : tie.Need-returns-2
 returns-2 c =
-    block-bits _ _ _ (c .before .before .before .before .before .args .b) (c .before .before .before .before .before .args .start) (c .before .before .before .before .before .args .end) (c .before .before .word .ensures) (c .before .bits-from .ensures) (c .bits-before .ensures)
+    block-bits _ _ _ (c .before .before .before .before .before .args .b) (c .before .before .before .before .before .args .start) (c .before .before .before .before .before .args .end) (c .before .bits-from .result) (c .before .before .word .ensures) (c .before .bits-from .ensures) (c .bits-before .ensures)
 
 pub open-block-spec : {M : Type 1} → statement M
 open-block-spec =
