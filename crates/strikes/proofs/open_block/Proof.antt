@@ -1,5 +1,5 @@
--- `strikes::open_block` meets its contract: the end is before the block (`block-none`), or the block's two words are cut to the slots from the start on
--- and before the end (`block-bits`). Assumes nothing.
+-- `strikes::open_block` meets its contract: the end is before the block (`block-none`), or the block's two words are cut to the slots from the
+-- start on and before the end (`block-bits`). Assumes nothing.
 use Rattle.strikes.proofs.BlockLaws.{block-none, block-bits}
 use borrow.Author.Needs.{needs}
 use Rattle.strikes.proofs.open_block.Statement.{statement}
