@@ -3,7 +3,7 @@ use crate::Session;
 use crate::Standing;
 use crate::Stepped;
 use crate::flags::is_shut;
-use segments::standing_in;
+use standing::standing_in;
 use undoing::undo;
 ghost use mathlib.Core.Path.{_≡_};
 ghost use mathlib.Core.List.{List};

@@ -29,7 +29,7 @@ pub fn fix(
         (now (masks .entry)) (now (cells .entry)) (now (trail .entry)) top (now (masks .exit)) (now (cells .exit)) (now (trail .exit)) (outcomeOf r) ⌝ }
 {
     let mut h = top;
-    let mut rest = strikes::other_values(masks, slot, v);
+    let mut rest = slots::other_values(masks, slot, v);
     while 1 < domains::count(rest) {
         let w = domains::lowest(rest);
         rest = domains::less(rest, w);
@@ -47,12 +47,12 @@ pub fn fix(
             return x;
         }
         h = height(x);
-        rest = strikes::other_values(masks, slot, v);
+        rest = slots::other_values(masks, slot, v);
     }
     if rest != 0 {
         return strike(masks, cells, trail, n, k, h, slot, domains::lowest(rest));
     }
-    if !strikes::has_value(masks, slot, v) {
+    if !slots::has_value(masks, slot, v) {
         return dead_at(h);
     }
     live_at(h)
@@ -73,7 +73,7 @@ pub fn strike(
     ensures { λ r. ⌜ Filtered n k (StrikeCut slot v) (StrikeCut slot v)
         (now (masks .entry)) (now (cells .entry)) (now (trail .entry)) top (now (masks .exit)) (now (cells .exit)) (now (trail .exit)) (outcomeOf r) ⌝ }
 {
-    if !strikes::has_value(masks, slot, v) {
+    if !slots::has_value(masks, slot, v) {
         return live_at(top);
     }
     let o = strikes::strike_one(masks, cells, trail, n, k, top, slot, v);
@@ -138,17 +138,17 @@ pub fn fix_free(
 {
     let mut h = top;
     let mut b = start / 32;
-    let mut word = strikes::open_block(cells, n, k, b, start, end);
+    let mut word = slots::open_block(cells, n, k, b, start, end);
     while b < (end + 31) / 32 {
         if word == 0 {
             b += 1;
-            word = strikes::open_block(cells, n, k, b, start, end);
+            word = slots::open_block(cells, n, k, b, start, end);
             continue;
         }
         let w = domains::lowest(word);
         word = domains::less(word, w);
         let s = 32 * b + w as usize;
-        if !strikes::is_free(masks, s, v) {
+        if !slots::is_free(masks, s, v) {
             continue;
         }
         let x = fix(masks, cells, trail, n, k, h, s, v);
@@ -178,20 +178,20 @@ pub fn strike_free(
 {
     let mut h = top;
     let mut b = start / 32;
-    let mut word = strikes::open_block(cells, n, k, b, start, end);
+    let mut word = slots::open_block(cells, n, k, b, start, end);
     while b < (end + 31) / 32 {
         if word == 0 {
             b += 1;
-            word = strikes::open_block(cells, n, k, b, start, end);
+            word = slots::open_block(cells, n, k, b, start, end);
             continue;
         }
         let w = domains::lowest(word);
         word = domains::less(word, w);
         let slot = 32 * b + w as usize;
-        if !strikes::is_free(masks, slot, v) {
+        if !slots::is_free(masks, slot, v) {
             continue;
         }
-        if !strikes::is_wide(masks, slot) {
+        if !slots::is_wide(masks, slot) {
             let x = strike(masks, cells, trail, n, k, h, slot, v);
             if is_dead(x) {
                 return x;
@@ -199,7 +199,7 @@ pub fn strike_free(
             h = height(x);
             continue;
         }
-        let left = strikes::without_value(masks, slot, v);
+        let left = slots::without_value(masks, slot, v);
         let low = strikes::thin(masks, cells, trail, n, k, h, slot, v, left);
         if low.clash {
             return dead_at(h);

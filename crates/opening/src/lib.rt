@@ -152,11 +152,11 @@ fn prune_value(
     ensures { λ r. ⌜ Filtered n k Anything (QuietValue n k (now (masks .entry)) (now (cells .entry)) v)
         (now (masks .entry)) (now (cells .entry)) (now (trail .entry)) top (now (masks .exit)) (now (cells .exit)) (now (trail .exit)) r ⌝ }
 {
-    let a = strikes::spent(cells, v, n);
+    let a = descents::spent(cells, v, n);
     let p = pruning::prune(masks, cells, trail, n, k, top, v, a, true);
     match p {
         outcomes::Outcome::Live(h) => {
-            let b = strikes::spent(cells, k + v, n);
+            let b = descents::spent(cells, k + v, n);
             return pruning::prune(masks, cells, trail, n, k, h, v, b, false);
         }
         outcomes::Outcome::Dead(x) => {

@@ -1,5 +1,3 @@
 pub mod AnswerLaws
-mod BlockLaws
-mod FallLaws
-pub mod OthersLaws
+pub mod LeftLaws
 pub mod ThinLaws

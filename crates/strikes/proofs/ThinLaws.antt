@@ -16,8 +16,9 @@ use Rattle.filter_model.specs.Strike.{Dropped}
 use Rattle.filter_model.specs.Trail.{written}
 use Rattle.filter_model.proofs.ContradictionLaws.{contradicted-low}
 use Rattle.filter_model.proofs.RemovalLaws.{low-note, low-tag, removed-plain}
-use Rattle.strikes.specs.Answers.{Told, Thinned}
-use Rattle.strikes.proofs.AnswerLaws.{told-clash, told-free}
+use Rattle.descents.specs.Told.{Told}
+use Rattle.descents.proofs.ToldLaws.{told-clash, told-free}
+use Rattle.strikes.specs.Answers.{Thinned}
 
 -- ---- a mask of more than two values, one of them taken out
 module _ (m v : ℕ) (wide : 2 < ones m) where

@@ -91,7 +91,7 @@ fn raise_row(cells: &mut [u16], row: u32, n: usize, slot: usize, tag: usize, not
     requires { ⌜ RowUndoing (now cells) row n slot tag note ⌝ }
     ensures { λ _. ⌜ now (cells .exit) ≡ over (row * (n + 2)) (n + 2) (risen (n + 1) tag note) (now (cells .entry)) ⌝ }
 {
-    segments::raise_in(cells, row as usize * (n + 2), n, slot, tag, note);
+    raising::raise_in(cells, row as usize * (n + 2), n, slot, tag, note);
 }
 
 // Puts value v into the slot, where it is not.

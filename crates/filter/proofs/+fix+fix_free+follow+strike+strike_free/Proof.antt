@@ -16,9 +16,11 @@ use Rattle.domains.proofs.MasksLaws.{subset-refl}
 use Rattle.domains.specs.Masks.{HasAt, total}
 use Rattle.filter_model.specs.Cuts.{FixCut, BoundCut}
 use Rattle.filter_model.proofs.StateLaws.{world-moved, ready-slot, ready-value, ready-room}
-use Rattle.strikes.specs.Answers.{OtherValues}
-use Rattle.strikes.proofs.AnswerLaws.{answer-contradicted, answer-removed, thinned-clash, thinned-made, free-no, free-yes}
-use Rattle.strikes.proofs.OthersLaws.{others-few, others-some, others-are, others-wide, less-lacks, less-with, others-less, removed-left}
+use Rattle.slots.specs.Values.{OtherValues}
+use Rattle.strikes.proofs.AnswerLaws.{answer-contradicted, answer-removed, thinned-clash, thinned-made}
+use Rattle.strikes.proofs.LeftLaws.{removed-left}
+use Rattle.slots.proofs.FreeLaws.{free-no, free-yes}
+use Rattle.slots.proofs.OthersLaws.{others-few, others-some, others-are, others-wide, less-lacks, less-with, others-less}
 use Rattle.filter.specs.Filtered.{Filtered}
 use Rattle.outcomes.specs.declared.Outcome.the-variants.{Live}
 use Rattle.filter.proofs.FilteredLaws.{filtered-at, filtered-live, filtered-refl, filtered-more, filtered-stop, filtered-goal, filtered-asks}
@@ -52,14 +54,14 @@ use Rattle.outcomes.proofs.dead_at.Reads as dead-at-reads
 use Rattle.outcomes.proofs.height.Reads as height-reads
 use Rattle.outcomes.proofs.is_dead.Reads as is-dead-reads
 use Rattle.outcomes.proofs.live_at.Reads as live-at-reads
-use Rattle.strikes.proofs.has_value.Reads as has-value-reads
-use Rattle.strikes.proofs.is_free.Reads as is-free-reads
-use Rattle.strikes.proofs.is_wide.Reads as is-wide-reads
-use Rattle.strikes.proofs.open_block.Reads as open-block-reads
-use Rattle.strikes.proofs.other_values.Reads as other-values-reads
+use Rattle.slots.proofs.has_value.Reads as has-value-reads
+use Rattle.slots.proofs.is_free.Reads as is-free-reads
+use Rattle.slots.proofs.is_wide.Reads as is-wide-reads
+use Rattle.slots.proofs.open_block.Reads as open-block-reads
+use Rattle.slots.proofs.other_values.Reads as other-values-reads
 use Rattle.strikes.proofs.strike_one.Reads as strike-one-reads
 use Rattle.strikes.proofs.thin.Reads as thin-reads
-use Rattle.strikes.proofs.without_value.Reads as without-value-reads
+use Rattle.slots.proofs.without_value.Reads as without-value-reads
 use Rattle.filter.proofs.+fix+fix_free+follow+strike+strike_free.{statement}
 use Rattle.filter.proofs.+fix+fix_free+follow+strike+strike_free.Tie.{close}
 

@@ -1,0 +1,2 @@
+mod FallLaws
+pub mod ToldLaws

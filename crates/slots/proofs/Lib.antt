@@ -1,0 +1,3 @@
+mod BlockLaws
+pub mod FreeLaws
+pub mod OthersLaws
