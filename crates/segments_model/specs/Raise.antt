@@ -1,7 +1,7 @@
 -- A fall taken back: how the cells were before it, from the cells after it and two numbers, a tag that tells what the fall did and a note of where.
 -- All cells here are stored ones.
---   tags 0, 1, lowered   the gap of the right end `endOf tag note`, note + 2 - tag, fell by one: tag 1 with note 0 is the end 1, and tag 0 any other
---   tag 2, joined    the right end that the cell at the note links to took over that cell's; a cell that is no link, or leads past n: no cell changed
+--   tags 0, 1, lowered   the gap of the right end `endOf tag note`, note + 2 - tag, fell by one; tag 1 is for the right end 1 alone
+--   tag 2, joined    the right end at the note gave its cell to the one that it links to now; where it is no link, or leads past n, no cell changed
 --   tag 3, spent     the first segment was spent; the note is the spent corner before
 --   risen n tag note cells       the cells before the fall
 --   Raisable                     the places that `risen` stores at are places of cells, and what it adds one to fits

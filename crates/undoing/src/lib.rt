@@ -30,7 +30,7 @@ pub fn undo(
     }
 }
 
-// Takes the strike i back, the latest that is left. Most often it lowered a right end after 1 and left several values, the tag 0: the first case.
+// Takes the strike i back, the latest that is left. Most often it has the tag 0: it lowered a right end after 1 and left several values.
 fn take_back(masks: &mut [u32], cells: &mut [u16], trail: &[u8], n: usize, k: u32, i: usize)
     requires { ⌜ StrikeUndoing (now masks) (now cells) (now trail) n k i ⌝ }
     ensures { λ _. ⌜ StrikeUndone (now (masks .entry)) (now (cells .entry)) (now (trail .entry)) n k i (now (masks .exit)) (now (cells .exit)) ⌝ }
