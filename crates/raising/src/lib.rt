@@ -40,7 +40,7 @@ fn lift(cells: &mut [u16], t: usize)
     cells[t] = cells[t] + 1;
 }
 
-// The right end that p was joined to, which the cell at p links to, is parted from it again; where that is no link or leads past n, the cells stay.
+// The right end that p links to, since it was joined to it, is parted from it again; where p is no link, or leads past n, the cells stay.
 fn unjoin(cells: &mut [u16], n: usize, p: usize)
     requires { ⌜ (p ≤ n) × (n < length (now cells)) × (n < 1024) ⌝ }
     ensures { λ _. ⌜ now (cells .exit) ≡ parted n p (now (cells .entry)) ⌝ }
