@@ -1,5 +1,5 @@
 // The words that run an entry on the book and the call list of a line, and print its answer after their own name: 0 (live, or a good book), 1 (dead)
-// or 256 + document 01's number of a refusal. What was written can then be printed, see show.rt.
+// or 256 + document 01's number of a refusal. What was written can then be printed, see print.rt of edge_cases.
 //   check
 //   close a b         lent a lowers and b uppers, of 8,225 each: 32 * 257 and one more
 //   settle m          lent m masks of 257
@@ -7,16 +7,18 @@
 //   numbers           check, close 1 1, settle 1 and session 1 1 in a row
 // Every element of an entry's outputs is 9999 before it runs, which no bound, mask or word here is; those that are not lent too. Where a word asks for
 // more elements than there are, no entry is run and - is printed for its answer.
-use crate::scan::argument;
-use crate::scan::begins_word;
-use crate::scan::is_word;
-use crate::show::end_line;
-use crate::show::show;
-use crate::show::show_counts;
-use crate::show::show_elements;
-use crate::show::show_word;
 use answer::word;
 use book::number;
+use edge_cases::argument;
+use edge_cases::begins_word;
+use edge_cases::clear;
+use edge_cases::clear16;
+use edge_cases::end_line;
+use edge_cases::is_word;
+use edge_cases::show;
+use edge_cases::show_counts;
+use edge_cases::show_elements;
+use edge_cases::show_word;
 
 // Carries out each word of the line after from that runs an entry or prints what it wrote.
 pub fn run_answers(line: &[u8], from: usize, book: &[u8], calls: &[u8]) {
@@ -186,18 +188,4 @@ fn check_word(book: &[u8]) -> u32 {
         return 0;
     }
     256 + number % 256
-}
-
-// Makes every element 9999.
-fn clear16(a: &mut [u16]) {
-    for i in 0..a.len() {
-        a[i] = 9999;
-    }
-}
-
-// Makes every element 9999.
-fn clear(a: &mut [u32]) {
-    for i in 0..a.len() {
-        a[i] = 9999;
-    }
 }

@@ -3,18 +3,14 @@
 // more than safety needs, and what does not fit an array is left out.
 // A line is a name and a colon, which are printed, and then words with numbers after them, parted by single spaces. A line that begins with # is none.
 mod answers; // answers.rt: words that run an entry and print its answer
-mod build; // build.rt: words that make the book and the call list of a line
-mod bytes; // bytes.rt: books and call lists as bytes
-mod scan; // scan.rt: words and numbers of a line
-mod show; // show.rt: words that print what an entry wrote
 
 use answers::run_answers;
-use build::build;
+use edge_cases::begins_line;
+use edge_cases::build;
+use edge_cases::colon_at;
+use edge_cases::line_at;
+use edge_cases::show_name;
 use libc::STDIN_FILENO;
-use scan::begins_line;
-use scan::colon_at;
-use scan::line_end;
-use show::show_name;
 
 fn main() {
     let mut text = [0u8; 32768];
@@ -28,19 +24,8 @@ fn run_lines(text: &[u8]) {
         if !begins_line(text, at) {
             continue;
         }
-        run_line(text, at, line_end(text, at));
+        run_case(line_at(text, at));
     }
-}
-
-// Runs the line of text from at to end.
-fn run_line(text: &[u8], at: usize, end: usize) {
-    if text.len() < end {
-        return;
-    }
-    if end < at {
-        return;
-    }
-    run_case(&text[at..end]);
 }
 
 // Prints the name, makes book and calls, runs the entries.

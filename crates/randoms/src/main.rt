@@ -5,26 +5,20 @@
 //
 // The file stdout was not written by this program. A program in Rust, which is not kept here, made the same books and calls from the same
 // random numbers, ran them through host/plain-filter, which has no code in common with the crate plain, and printed these counts.
-mod books; // books.rt: random books
-mod bytes; // bytes.rt: bytes of books and calls
-mod calls; // calls.rt: random call lists
 mod compare; // compare.rt: the engine against the plain filter, step by step
-mod counts; // counts.rt: the counts
-mod random; // random.rt: random numbers
-mod tell; // tell.rt: counting and printing
 
-use books::make_book;
-use books::write_book;
-use bytes::front;
-use calls::call_count;
-use calls::make_calls;
 use compare::compare_check;
 use compare::compare_closing;
 use compare::compare_session;
 use compare::compare_settling;
-use counts::Counts;
-use tell::report;
-use tell::tell_book;
+use random_books::Counts;
+use random_books::call_count;
+use random_books::front;
+use random_books::make_book;
+use random_books::make_calls;
+use random_books::report;
+use random_books::tell_book;
+use random_books::write_book;
 
 // The books of a run.
 const BOOKS: usize = 2000;
