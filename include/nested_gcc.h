@@ -119,9 +119,9 @@ uint32_t nested_gcc_close(const uint8_t *book, size_t book_len,
  *     is not touched.
  * Bytes past the n elements stay as they are.
  *
- * Stack: 93 KiB, and up to 832 bytes for each strike that is nested in another. The deepest nesting found, a
- * chain of 255 strikes, needs 296 KiB in all; 320 KiB is what the test holds. A strike takes a type out of a
- * mask before it goes deeper, so no book nests more than 8192 of them: 7 MiB suffices for every book.
+ * Stack: 93 KiB, and up to 704 bytes for each strike that is nested in another. The deepest nesting found, a
+ * chain of 255 strikes, needs 261 KiB in all; 320 KiB is what the test holds. A strike takes a type out of a
+ * mask before it goes deeper, so no book nests more than 8192 of them: 6 MiB suffices for every book.
  */
 uint32_t nested_gcc_settle(const uint8_t *book, size_t book_len, uint8_t *masks, size_t masks_len);
 
@@ -184,8 +184,8 @@ uint32_t nested_gcc_settle(const uint8_t *book, size_t book_len, uint8_t *masks,
  *     is good.
  * Bytes past the elements written stay as they are.
  *
- * Stack: 126 KiB, and as for nested_gcc_settle up to 832 bytes for each strike that is nested in another. The
- * deepest nesting found needs 296 KiB in all; 512 KiB is what the test holds, and 7 MiB suffices for every book
+ * Stack: 126 KiB, and as for nested_gcc_settle up to 704 bytes for each strike that is nested in another. The
+ * deepest nesting found needs 261 KiB in all; 512 KiB is what the test holds, and 6 MiB suffices for every book
  * and list.
  */
 uint32_t nested_gcc_session(const uint8_t *book, size_t book_len,
