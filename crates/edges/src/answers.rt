@@ -87,18 +87,11 @@ fn run_close(line: &[u8], at: usize, book: &[u8], lowers: &mut [u16], uppers: &m
     clear16(uppers);
     let a = argument(line, at, 1) as usize;
     let b = argument(line, at, 2) as usize;
-    show(close_word(book, lowers, uppers, a, b));
-}
-
-// Close's answer, lent the first a lowers and the first b uppers.
-fn close_word(book: &[u8], lowers: &mut [u16], uppers: &mut [u16], a: usize, b: usize) -> u32 {
-    if lowers.len() < a {
-        return 9999;
+    if lowers.len() < a || uppers.len() < b {
+        show(9999);
+        return;
     }
-    if uppers.len() < b {
-        return 9999;
-    }
-    word(entries::close(book, &mut lowers[..a], &mut uppers[..b]))
+    show(word(entries::close(book, &mut lowers[..a], &mut uppers[..b])));
 }
 
 // Runs settle, if the word at at says so.
@@ -108,15 +101,12 @@ fn run_settle(line: &[u8], at: usize, book: &[u8], masks: &mut [u32]) {
     }
     show_word(line, at);
     clear(masks);
-    show(settle_word(book, masks, argument(line, at, 1) as usize));
-}
-
-// Settle's answer, lent the first m masks.
-fn settle_word(book: &[u8], masks: &mut [u32], m: usize) -> u32 {
+    let m = argument(line, at, 1) as usize;
     if masks.len() < m {
-        return 9999;
+        show(9999);
+        return;
     }
-    word(entries::settle(book, &mut masks[..m]))
+    show(word(entries::settle(book, &mut masks[..m])));
 }
 
 // Runs session, if the word at at says so.
@@ -136,25 +126,11 @@ fn run_session(
     clear(masks);
     let w = argument(line, at, 1) as usize;
     let m = argument(line, at, 2) as usize;
-    show(session_word(book, calls, words, masks, w, m));
-}
-
-// Session's answer, lent the first w words and the first m masks.
-fn session_word(
-    book: &[u8],
-    calls: &[u8],
-    words: &mut [u32],
-    masks: &mut [u32],
-    w: usize,
-    m: usize,
-) -> u32 {
-    if words.len() < w {
-        return 9999;
+    if words.len() < w || masks.len() < m {
+        show(9999);
+        return;
     }
-    if masks.len() < m {
-        return 9999;
-    }
-    word(entries::session(book, calls, &mut words[..w], &mut masks[..m]))
+    show(word(entries::session(book, calls, &mut words[..w], &mut masks[..m])));
 }
 
 // Runs check, or all four, if the word at at says so.

@@ -1,21 +1,17 @@
 // Counts what the plain machine answers, and prints the counts.
 use crate::counts::BOOKS;
-use crate::counts::BOUNDS_MOVED;
 use crate::counts::CALLS;
 use crate::counts::CLOSED_DEAD;
 use crate::counts::Counts;
 use crate::counts::DEAD_DECISIONS;
 use crate::counts::DIFFERENCES;
 use crate::counts::FIRST_BOOK;
-use crate::counts::FIRST_PLACE;
-use crate::counts::FIRST_STEP;
 use crate::counts::LIVE;
 use crate::counts::LIVE_DECISIONS;
 use crate::counts::LOWER_WALLS;
 use crate::counts::MARKS_AND_BACKS;
 use crate::counts::REFUSED;
 use crate::counts::SETTLED_DEAD;
-use crate::counts::SETTLED_STRUCK;
 use crate::counts::SHOWN;
 use crate::counts::STRUCK;
 use crate::counts::UPPER_WALLS;
@@ -65,48 +61,49 @@ fn tell_value(kind: u8, value: u32, counts: &mut Counts) {
 
 // Prints all counts, one to a line, and the first difference if there is one.
 pub fn report(counts: &Counts) {
-    line(b"books ", count(counts, BOOKS));
-    line(b"closed dead ", count(counts, CLOSED_DEAD));
-    line(b"settled dead ", count(counts, SETTLED_DEAD));
-    line(b"live ", count(counts, LIVE));
-    line(b"bounds moved ", count(counts, BOUNDS_MOVED));
-    line(b"settling struck ", count(counts, SETTLED_STRUCK));
-    report_calls(counts);
-    report_refusals(counts);
-    report_differences(counts);
-}
-
-fn report_calls(counts: &Counts) {
-    line(b"calls ", count(counts, CALLS));
-    line(b"live decisions ", count(counts, LIVE_DECISIONS));
-    line(b"dead decisions ", count(counts, DEAD_DECISIONS));
-    line(b"struck ", count(counts, STRUCK));
-    line(b"marks and backs ", count(counts, MARKS_AND_BACKS));
-    line(b"shown above 0 ", count(counts, SHOWN));
-    line(b"upper walls above 0 ", count(counts, UPPER_WALLS));
-    line(b"lower walls above 0 ", count(counts, LOWER_WALLS));
-}
-
-fn report_refusals(counts: &Counts) {
-    for i in 0..6 {
-        io::write_all(STDOUT_FILENO, b"refused ");
-        io::print_decimal(STDOUT_FILENO, (i + 11) as u64);
-        line(b" ", count(counts, REFUSED + i));
+    lines(
+        b"books #closed dead #settled dead #live #bounds moved #settling struck #",
+        BOOKS,
+        counts,
+    );
+    lines(
+        b"calls #live decisions #dead decisions #struck #marks and backs #",
+        CALLS,
+        counts,
+    );
+    lines(
+        b"shown above 0 #upper walls above 0 #lower walls above 0 #",
+        SHOWN,
+        counts,
+    );
+    lines(
+        b"refused 11 #refused 12 #refused 13 #refused 14 #refused 15 #refused 16 #",
+        REFUSED,
+        counts,
+    );
+    lines(b"differences #", DIFFERENCES, counts);
+    if 0 < count(counts, DIFFERENCES) {
+        lines(b"first in book #step #place #", FIRST_BOOK, counts);
     }
 }
 
-fn report_differences(counts: &Counts) {
-    let differences = count(counts, DIFFERENCES);
-    line(b"differences ", differences);
-    if 0 < differences {
-        line(b"first in book ", count(counts, FIRST_BOOK));
-        line(b"step ", count(counts, FIRST_STEP));
-        line(b"place ", count(counts, FIRST_PLACE));
+// Prints the text, for each # of it a count and the line's end: the counts from the place `first` on.
+fn lines(text: &[u8], first: usize, counts: &Counts) {
+    let mut which = first;
+    for i in 0..text.len() {
+        if text[i] != b'#' {
+            byte_of(text, i);
+            continue;
+        }
+        io::print_decimal(STDOUT_FILENO, count(counts, which) as u64);
+        io::write_all(STDOUT_FILENO, b"\n");
+        which = plus(which, 1);
     }
 }
 
-fn line(name: &[u8], x: usize) {
-    io::write_all(STDOUT_FILENO, name);
-    io::print_decimal(STDOUT_FILENO, x as u64);
-    io::write_all(STDOUT_FILENO, b"\n");
+// Prints byte i of the text.
+fn byte_of(text: &[u8], i: usize) {
+    if i < text.len() {
+        io::write_all(STDOUT_FILENO, &text[i..i + 1]);
+    }
 }
