@@ -3,3 +3,4 @@ pub mod LargestLaws
 pub mod LoopLaws
 pub mod StrikeLaws
 mod SweepLaws
+mod TurnLaws

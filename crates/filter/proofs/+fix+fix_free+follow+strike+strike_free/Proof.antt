@@ -1,10 +1,10 @@
 -- The proof of the cycle of calls of `fix`, `fix_free`, `follow`, `strike` and `strike_free`. The measure is four times the values that are left, plus
--- 1 for `fix`, 2 for `fix_free` and `strike_free`, and 3 for `follow`. The invariant of each loop is `Filtered` for what was passed: the other
--- values that are struck, the slots that are settled; each turn is `filtered-more`. In `fix` it is also that `rest` is what the slot has besides v
--- (`others-less`). A turn with `thin` is `thin-quiet` or `thin-followed`; `strike` is `strike-followed`, and `follow` is `follow-both` where both
+-- 1 for `fix`, 2 for `fix_free` and `strike_free`, and 3 for `follow`. The invariant of each loop is `Filtered` for what was passed: in
+-- `fix` the other values that are struck, and that `rest` is what the slot has besides v (`others-less`); in the two others the slots that are settled
+-- (`FreeInv`, whose turns are those of TurnLaws). A strike by `thin` is `thin-quiet` or `thin-followed`; `strike` is `strike-followed`, and `follow` is `follow-both` where both
 -- its loops run. Assumes nothing.
 use mathlib.Core.Path.{_≡_, refl, sym, _∙_}
-use mathlib.Core.Bool.{Bool, true, false}
+use mathlib.Core.Bool.{true, false}
 use mathlib.Core.List.{List}
 use Prim.Native.Nat.{ℕ, _+_, _-_, _*_, _≤_, _<_}
 use native.Mathlib.Omega.{arith}
@@ -12,9 +12,8 @@ use lib.Count.{ones}
 use lib.ListN.{length, getD}
 use borrow.Author.Needs.{needs}
 use borrow.Author.Tests.{eqb-true, eqb-false, ltb-true, not-true, not-false}
-use Rattle.domains.proofs.MasksLaws.{subset-refl}
-use Rattle.domains.specs.Masks.{HasAt, total}
-use Rattle.filter_model.specs.Cuts.{FixCut, BoundCut}
+use Rattle.domains.specs.Masks.{HasAt, FixedAt, total}
+use Rattle.filter_model.specs.Cuts.{FixCut}
 use Rattle.filter_model.proofs.StateLaws.{world-moved, ready-slot, ready-value, ready-room}
 use Rattle.slots.specs.Values.{OtherValues}
 use Rattle.strikes.proofs.AnswerLaws.{answer-contradicted, answer-removed, thinned-clash, thinned-made}
@@ -25,8 +24,9 @@ use Rattle.filter.specs.Filtered.{Filtered}
 use Rattle.outcomes.specs.declared.Outcome.the-variants.{Live}
 use Rattle.filter.proofs.FilteredLaws.{filtered-at, filtered-live, filtered-refl, filtered-more, filtered-stop, filtered-goal, filtered-asks}
 use Rattle.filter.proofs.LoopLaws.{Other, other-of, other-has, other-value, other-cut, other-last, other-none, total-less}
-use Rattle.filter.proofs.LoopLaws.{free-concerned}
-use Rattle.filter.proofs.SweepLaws.{Left, left-block, left-less, left-next, block-asked, Swept, swept-first, swept-block, swept-slot, swept-cut, swept-end}
+use Rattle.filter.proofs.SweepLaws.{block-asked}
+use Rattle.filter.proofs.TurnLaws.{FreeInv, turn-first, turn-world, turn-end, turn-asked, turn-block}
+use Rattle.filter.proofs.TurnLaws.{turn-slot, turn-ready, turn-less, turn-settled, turn-cut, turn-dead}
 use Rattle.filter.proofs.StrikeLaws.{strike-absent, strike-contradicted, strike-followed}
 use Rattle.filter.proofs.StrikeLaws.{fix-absent, follow-none, follow-high, follow-low, follow-dead, follow-both, thin-quiet, thin-followed}
 use borrow.Fn.Kinds.{In}
@@ -69,11 +69,6 @@ use Rattle.filter.proofs.+fix+fix_free+follow+strike+strike_free.Tie.{c
 record FixInv (n k slot v : ℕ) (masks₀ cells₀ trail₀ : List ℕ) (h₀ : ℕ) (masks cells trail : List ℕ) (h rest : ℕ) : Type 0 where
   done : Filtered n k (FixCut slot v) (λ M. Unit {0}) masks₀ cells₀ trail₀ h₀ masks cells trail (Live h)
   others : OtherValues (getD masks slot 0) v rest
-
--- all from the start on is settled but what is left: the slots of the word, and those after the block b
-record FreeInv (kind : Bool) (n k v start end : ℕ) (masks₀ cells₀ trail₀ : List ℕ) (h₀ : ℕ) (masks cells trail : List ℕ) (h b word : ℕ) : Type 0 where
-  done : Filtered n k (BoundCut kind masks₀ v end) (λ M. Swept M v start end b word) masks₀ cells₀ trail₀ h₀ masks cells trail (Live h)
-  left : Left start end b word
 
 abbrev μ-fix : Measures 3 fix-kinds.ps ℕ
 μ-fix κs a = 4 * total (a .0 .now) + 1
@@ -390,12 +385,7 @@ fix-free-open-block-requires : (t : ℕ) → fix-free-lts.Need-open-block-requir
 fix-free-open-block-requires t c κs = block-asked (c .before .before .before .before .pre .1) (c .before .before .before .before .pre .1 .world) (omega arith)
 
 fix-free-loop-holds : (t : ℕ) → fix-free-lts.Need-loop-holds (fix-free-calls t) (fix-free-at t) fix-free.Post fix-free-Inv-loop fix-free-μ-loop
-fix-free-loop-holds t c =
-    let pruning = c .before .before .before .before .before .pre .1 in
-    record {
-      done = filtered-refl _ _ _ _ (swept-first refl (pruning .end-in) (pruning .opens) (c .open-block .ensures));
-      left = left-block (omega arith) (c .open-block .ensures);
-    }
+fix-free-loop-holds t c = turn-first (c .before .before .before .before .before .pre .1) (c .open-block .ensures)
 
 fix-free-add-loop : (t : ℕ) → fix-free-lts.Need-add-loop (fix-free-calls t) (fix-free-at t) fix-free.Post fix-free-Inv-loop fix-free-μ-loop
 fix-free-add-loop t c = omega (arith, c .before .before .before .before .before .before .pre .1 .end-in, c .before .before .before .before .before .before .pre .1 .world .slots-fit)
@@ -404,24 +394,13 @@ fix-free-add-b : (t : ℕ) → fix-free-lts.Need-add-b (fix-free-calls t) (fix-f
 fix-free-add-b t c = omega (arith, c .before .loop-test .taken, c .before .before .before .before .before .before .before .before .pre .1 .end-in, c .before .before .before .before .before .before .before .before .pre .1 .world .slots-fit)
 
 fix-free-open-block-requires-2 : (t : ℕ) → fix-free-lts.Need-open-block-requires-2 (fix-free-calls t) (fix-free-at t) fix-free.Post fix-free-Inv-loop fix-free-μ-loop
-fix-free-open-block-requires-2 t c κs =
-    let pruning = c .before .before .before .before .before .before .before .before .before .pre .1 in
-    block-asked pruning (world-moved (pruning .world) (c .before .before .before .loop .inv .done .moved)) (omega (arith, c .before .before .before .loop .inv .left .start-in))
+fix-free-open-block-requires-2 t c κs = turn-asked (c .before .before .before .before .before .before .before .before .before .pre .1) (c .before .before .before .loop .inv)
 
 fix-free-loop-less : (t : ℕ) → fix-free-lts.Need-loop-less (fix-free-calls t) (fix-free-at t) fix-free.Post fix-free-Inv-loop fix-free-μ-loop
 fix-free-loop-less t c = omega (arith, c .before .before .before .loop-test .taken, c .open-block2 .ensures .word)
 
 fix-free-loop-again : (t : ℕ) → fix-free-lts.Need-loop-again (fix-free-calls t) (fix-free-at t) fix-free.Post fix-free-Inv-loop fix-free-μ-loop
-fix-free-loop-again t c =
-    let pruning = c .before .before .before .before .before .before .before .before .before .before .pre .1 in
-    let inv = c .before .before .before .before .loop .inv in
-    record {
-      done =
-          filtered-goal (inv .done)
-          (λ live swept.
-          swept-block (pruning .end-in) (inv .done .moved .opens (pruning .opens)) (c .before .before .if1 .taken) swept (c .open-block2 .ensures));
-      left = left-block (omega (arith, inv .left .start-in)) (c .open-block2 .ensures);
-    }
+fix-free-loop-again t c = turn-block (c .before .before .before .before .before .before .before .before .before .before .pre .1) (c .before .before .before .before .loop .inv) (c .before .before .if1 .taken) (c .open-block2 .ensures)
 
 fix-free-lowest-requires : (t : ℕ) → fix-free-lts.Need-lowest-requires (fix-free-calls t) (fix-free-at t) fix-free.Post fix-free-Inv-loop fix-free-μ-loop
 fix-free-lowest-requires t c κs = omega (arith, c .if1 .left)
@@ -441,75 +420,52 @@ fix-free-add-s t c = omega (arith, c .before .before .before .loop-test .taken, 
 fix-free-is-free-requires : (t : ℕ) → fix-free-lts.Need-is-free-requires (fix-free-calls t) (fix-free-at t) fix-free.Post fix-free-Inv-loop fix-free-μ-loop
 fix-free-is-free-requires t c κs =
     let pruning = c .before .before .before .before .before .before .before .before .before .before .before .pre .1 in (
-      omega (arith, c .before .before .before .before .before .loop .inv .left .before (c .before .before .lowest .result) (c .before .before .lowest .ensures .1 .has), c .before .before .before .before .before .loop .inv .done .moved .within .len, pruning .end-in, pruning .world .slots),
+      turn-slot pruning (c .before .before .before .before .before .loop .inv) (c .before .before .lowest .result) (c .before .before .lowest .ensures .1 .has),
       omega (arith, pruning .value-in, pruning .world .values-fit),
     )
 
 fix-free-loop-less-2 : (t : ℕ) → fix-free-lts.Need-loop-less-2 (fix-free-calls t) (fix-free-at t) fix-free.Post fix-free-Inv-loop fix-free-μ-loop
-fix-free-loop-less-2 t c = omega (arith, left-less (c .before .before .before .before .before .before .before .loop .inv .left) (c .before .before .before .before .lowest .result) (c .before .before .before .before .lowest .ensures .1 .has) (c .before .before .before .less .ensures))
+fix-free-loop-less-2 t c = omega (arith, turn-less (c .before .before .before .before .before .before .before .before .before .before .before .before .before .pre .1) (c .before .before .before .before .before .before .before .loop .inv) (c .before .before .before .before .lowest .result) (c .before .before .before .before .lowest .ensures .1 .has) (c .before .before .before .less .ensures))
 
 fix-free-loop-again-2 : (t : ℕ) → fix-free-lts.Need-loop-again-2 (fix-free-calls t) (fix-free-at t) fix-free.Post fix-free-Inv-loop fix-free-μ-loop
-fix-free-loop-again-2 t c =
-    let fixed = free-no _ _ {r = c .before .is-free .result} (not-true _ (c .if2 .taken)) (c .before .is-free .ensures) in
-    record {
-      done = filtered-goal (c .before .before .before .before .before .before .before .loop .inv .done) (λ live swept. swept-slot (c .before .before .before .before .lowest .result) (c .before .before .before .less .ensures) refl (subset-refl _) fixed swept);
-      left = left-next (c .before .before .before .before .before .before .before .loop .inv .left) (c .before .before .before .before .lowest .result) (c .before .before .before .before .lowest .ensures .1 .has) (c .before .before .before .less .ensures);
-    }
+fix-free-loop-again-2 t c = turn-settled (c .before .before .before .before .before .before .before .before .before .before .before .before .before .pre .1) (c .before .before .before .before .before .before .before .loop .inv) (c .before .before .before .before .lowest .result) (c .before .before .before .before .lowest .ensures .1 .has) (c .before .before .before .less .ensures) (free-no _ _ {r = c .before .is-free .result} (not-true _ (c .if2 .taken)) (c .before .is-free .ensures))
+
+-- the slot is free
+fix-free-free : (t : ℕ) (c : fix-free-lts.Else2 (fix-free-calls t) (fix-free-at t) fix-free.Post fix-free-Inv-loop fix-free-μ-loop) → HasAt (c .before .before .before .before .before .before .before .loop .masks) (32 * c .before .before .before .before .before .before .before .loop .b + c .before .before .before .before .lowest .result) (c .before .before .before .before .before .before .before .before .before .before .before .before .before .args .v)
+    × (FixedAt (c .before .before .before .before .before .before .before .loop .masks) (32 * c .before .before .before .before .before .before .before .loop .b + c .before .before .before .before .lowest .result) (c .before .before .before .before .before .before .before .before .before .before .before .before .before .args .v) → ⊥)
+fix-free-free t c = free-yes _ _ {r = c .before .is-free .result} (not-false _ (c .if2 .left)) (c .before .is-free .ensures)
 
 fix-free-fix-requires : (t : ℕ) → fix-free-lts.Need-fix-requires (fix-free-calls t) (fix-free-at t) fix-free.Post fix-free-Inv-loop fix-free-μ-loop
 fix-free-fix-requires t c κs =
-    let pre = c .before .before .before .before .before .before .before .before .before .before .before .before .before .before .before .before .pre in
-    let done = c .before .before .before .before .before .before .before .before .before .before .loop .inv .done in (
-      omega (arith, total-less (done .moved .within), pre .0),
-      record {
-        world = world-moved (pre .1 .world) (done .moved);
-        opens = done .moved .opens (pre .1 .opens);
-        slot-in = omega (arith, c .before .before .before .before .before .before .before .before .before .before .loop .inv .left .before (c .before .before .before .before .before .before .before .lowest .result) (c .before .before .before .before .before .before .before .lowest .ensures .1 .has), pre .1 .end-in);
-        value-in = pre .1 .value-in;
-      },
+    let pre = c .before .before .before .before .before .before .before .before .before .before .before .before .before .before .before .before .pre in (
+      omega (arith, total-less (c .before .before .before .before .before .before .before .before .before .before .loop .inv .done .moved .within), pre .0),
+      turn-ready (pre .1) (c .before .before .before .before .before .before .before .before .before .before .loop .inv) (c .before .before .before .before .before .before .before .lowest .result) (c .before .before .before .before .before .before .before .lowest .ensures .1 .has),
     )
 
 fix-free-is-dead-requires : (t : ℕ) → fix-free-lts.Need-is-dead-requires (fix-free-calls t) (fix-free-at t) fix-free.Post fix-free-Inv-loop fix-free-μ-loop
 fix-free-is-dead-requires t c κs = search needs
 
 fix-free-returns : (t : ℕ) → fix-free-lts.Need-returns (fix-free-calls t) (fix-free-at t) fix-free.Post fix-free-Inv-loop fix-free-μ-loop
-fix-free-returns t c =
-    let done = c .before .before .before .before .before .before .before .before .before .before .before .before .before .before .before .before .before .before .before .loop .inv .done in
-    let args = c .before .before .before .before .before .before .before .before .before .before .before .before .before .before .before .before .before .before .before .before .before .before .before .before .before .args in
-    let slot = 32 * c .before .before .before .before .before .before .before .before .before .before .before .before .before .before .before .before .before .before .before .loop .b + c .before .before .before .before .before .before .before .before .before .before .before .before .before .before .before .before .lowest .result in
-    let free = free-yes _ _ {r = c .before .before .before .before .before .before .before .before .before .before .before .before .before .is-free .result} (not-false _ (c .before .before .before .before .before .before .before .before .before .before .before .before .if2 .left)) (c .before .before .before .before .before .before .before .before .before .before .before .before .before .is-free .ensures) in
-    let asks = free-concerned true (done .moved .within) slot (args .v) (free .0) (free .1) in
-    filtered-stop (c .before .is-dead .ensures) (c .if3 .taken) done (c .before .before .before .before .before .before .before .before .fix .ensures) (λ N cut. cut .each slot (c .before .before .before .before .before .before .before .before .before .before .before .before .before .before .before .before .before .before .before .loop .inv .left .before (c .before .before .before .before .before .before .before .before .before .before .before .before .before .before .before .before .lowest .result) (c .before .before .before .before .before .before .before .before .before .before .before .before .before .before .before .before .lowest .ensures .1 .has)) asks)
+fix-free-returns t c = turn-dead (c .before .before .before .before .before .before .before .before .before .before .before .before .before .before .before .before .before .before .before .before .before .before .before .before .before .pre .1) (c .before .before .before .before .before .before .before .before .before .before .before .before .before .before .before .before .before .before .before .loop .inv) (c .before .before .before .before .before .before .before .before .before .before .before .before .before .before .before .before .lowest .result) (c .before .before .before .before .before .before .before .before .before .before .before .before .before .before .before .before .lowest .ensures .1 .has) (fix-free-free t (c .before .before .before .before .before .before .before .before .before .before .before .before)) (c .before .is-dead .ensures) (c .if3 .taken) (c .before .before .before .before .before .before .before .before .fix .ensures)
 
 fix-free-height-requires : (t : ℕ) → fix-free-lts.Need-height-requires (fix-free-calls t) (fix-free-at t) fix-free.Post fix-free-Inv-loop fix-free-μ-loop
 fix-free-height-requires t c κs = search needs
 
 fix-free-loop-less-3 : (t : ℕ) → fix-free-lts.Need-loop-less-3 (fix-free-calls t) (fix-free-at t) fix-free.Post fix-free-Inv-loop fix-free-μ-loop
-fix-free-loop-less-3 t c = omega (arith, left-less (c .before .before .before .before .before .before .before .before .before .before .before .before .before .before .before .before .before .before .before .before .loop .inv .left) (c .before .before .before .before .before .before .before .before .before .before .before .before .before .before .before .before .before .lowest .result) (c .before .before .before .before .before .before .before .before .before .before .before .before .before .before .before .before .before .lowest .ensures .1 .has) (c .before .before .before .before .before .before .before .before .before .before .before .before .before .before .before .before .less .ensures))
+fix-free-loop-less-3 t c = omega (arith, turn-less (c .before .before .before .before .before .before .before .before .before .before .before .before .before .before .before .before .before .before .before .before .before .before .before .before .before .before .pre .1) (c .before .before .before .before .before .before .before .before .before .before .before .before .before .before .before .before .before .before .before .before .loop .inv) (c .before .before .before .before .before .before .before .before .before .before .before .before .before .before .before .before .before .lowest .result) (c .before .before .before .before .before .before .before .before .before .before .before .before .before .before .before .before .before .lowest .ensures .1 .has) (c .before .before .before .before .before .before .before .before .before .before .before .before .before .before .before .before .less .ensures))
 
 fix-free-loop-again-3 : (t : ℕ) → fix-free-lts.Need-loop-again-3 (fix-free-calls t) (fix-free-at t) fix-free.Post fix-free-Inv-loop fix-free-μ-loop
 fix-free-loop-again-3 t c =
-    let done = c .before .before .before .before .before .before .before .before .before .before .before .before .before .before .before .before .before .before .before .before .loop .inv .done in
-    let args = c .before .before .before .before .before .before .before .before .before .before .before .before .before .before .before .before .before .before .before .before .before .before .before .before .before .before .args in
-    let slot = 32 * c .before .before .before .before .before .before .before .before .before .before .before .before .before .before .before .before .before .before .before .before .loop .b + c .before .before .before .before .before .before .before .before .before .before .before .before .before .before .before .before .before .lowest .result in
-    let free = free-yes _ _ {r = c .before .before .before .before .before .before .before .before .before .before .before .before .before .before .is-free .result} (not-false _ (c .before .before .before .before .before .before .before .before .before .before .before .before .before .if2 .left)) (c .before .before .before .before .before .before .before .before .before .before .before .before .before .before .is-free .ensures) in
-    let asks = free-concerned true (done .moved .within) slot (args .v) (free .0) (free .1) in
-    record {
-      done =
-          filtered-more done (filtered-live (c .before .before .is-dead .ensures) (c .before .if3 .left) (c .height .ensures) (c .before .before .before .before .before .before .before .before .before .fix .ensures)) (λ N cut. cut .each slot (c .before .before .before .before .before .before .before .before .before .before .before .before .before .before .before .before .before .before .before .before .loop .inv .left .before (c .before .before .before .before .before .before .before .before .before .before .before .before .before .before .before .before .before .lowest .result) (c .before .before .before .before .before .before .before .before .before .before .before .before .before .before .before .before .before .lowest .ensures .1 .has)) asks)
-          (λ live swept cut. swept-cut true (c .before .before .before .before .before .before .before .before .before .before .before .before .before .before .before .before .before .lowest .result) (c .before .before .before .before .before .before .before .before .before .before .before .before .before .before .before .before .less .ensures) refl (c .before .before .before .before .before .before .before .before .before .fix .ensures .moved .within) cut swept);
-      left = left-next (c .before .before .before .before .before .before .before .before .before .before .before .before .before .before .before .before .before .before .before .before .loop .inv .left) (c .before .before .before .before .before .before .before .before .before .before .before .before .before .before .before .before .before .lowest .result) (c .before .before .before .before .before .before .before .before .before .before .before .before .before .before .before .before .before .lowest .ensures .1 .has) (c .before .before .before .before .before .before .before .before .before .before .before .before .before .before .before .before .less .ensures);
-    }
+    turn-cut (c .before .before .before .before .before .before .before .before .before .before .before .before .before .before .before .before .before .before .before .before .before .before .before .before .before .before .pre .1) (c .before .before .before .before .before .before .before .before .before .before .before .before .before .before .before .before .before .before .before .before .loop .inv) (c .before .before .before .before .before .before .before .before .before .before .before .before .before .before .before .before .before .lowest .result) (c .before .before .before .before .before .before .before .before .before .before .before .before .before .before .before .before .before .lowest .ensures .1 .has) (fix-free-free t (c .before .before .before .before .before .before .before .before .before .before .before .before .before)) (c .before .before .before .before .before .before .before .before .before .before .before .before .before .before .before .before .less .ensures)
+    (filtered-live (c .before .before .is-dead .ensures) (c .before .if3 .left) (c .height .ensures) (c .before .before .before .before .before .before .before .before .before .fix .ensures))
 
 fix-free-live-at-requires : (t : ℕ) → fix-free-lts.Need-live-at-requires (fix-free-calls t) (fix-free-at t) fix-free.Post fix-free-Inv-loop fix-free-μ-loop
 fix-free-live-at-requires t c κs =
-    let done = c .before .loop .inv .done in
-    let world = world-moved (c .before .before .before .before .before .before .before .pre .1 .world) (done .moved) in
-    let size : length (c .before .loop .trail) ≡ length (c .before .before .before .before .before .before .before .args .trail .now) = done .moved .trailed .size in
-    omega (arith, world .room, size, c .before .before .before .before .before .before .before .good)
+    let size : length (c .before .loop .trail) ≡ length (c .before .before .before .before .before .before .before .args .trail .now) = c .before .loop .inv .done .moved .trailed .size in
+    omega (arith, turn-world (c .before .before .before .before .before .before .before .pre .1) (c .before .loop .inv) .room, size, c .before .before .before .before .before .before .before .good)
 
 fix-free-returns-2 : (t : ℕ) → fix-free-lts.Need-returns-2 (fix-free-calls t) (fix-free-at t) fix-free.Post fix-free-Inv-loop fix-free-μ-loop
-fix-free-returns-2 t c = filtered-at (sym (c .live-at .ensures)) (filtered-goal (c .before .before .loop .inv .done) (λ live swept. swept-end (c .before .loop-test .left) swept))
+fix-free-returns-2 t c = filtered-at (sym (c .live-at .ensures)) (turn-end (c .before .before .before .before .before .before .before .before .pre .1) (c .before .before .loop .inv) (c .before .loop-test .left))
 
 follow-strike-free-requires : (t : ℕ) → follow-lts.Need-strike-free-requires (follow-calls t) (follow-at t) follow.Post
 follow-strike-free-requires t c κs =
@@ -644,12 +600,7 @@ strike-free-open-block-requires : (t : ℕ) → strike-free-lts.Need-open-block-
 strike-free-open-block-requires t c κs = block-asked (c .before .before .before .before .pre .1) (c .before .before .before .before .pre .1 .world) (omega arith)
 
 strike-free-loop-holds : (t : ℕ) → strike-free-lts.Need-loop-holds (strike-free-calls t) (strike-free-at t) strike-free.Post strike-free-Inv-loop strike-free-μ-loop
-strike-free-loop-holds t c =
-    let pruning = c .before .before .before .before .before .pre .1 in
-    record {
-      done = filtered-refl _ _ _ _ (swept-first refl (pruning .end-in) (pruning .opens) (c .open-block .ensures));
-      left = left-block (omega arith) (c .open-block .ensures);
-    }
+strike-free-loop-holds t c = turn-first (c .before .before .before .before .before .pre .1) (c .open-block .ensures)
 
 strike-free-add-loop : (t : ℕ) → strike-free-lts.Need-add-loop (strike-free-calls t) (strike-free-at t) strike-free.Post strike-free-Inv-loop strike-free-μ-loop
 strike-free-add-loop t c = omega (arith, c .before .before .before .before .before .before .pre .1 .end-in, c .before .before .before .before .before .before .pre .1 .world .slots-fit)
@@ -658,24 +609,13 @@ strike-free-add-b : (t : ℕ) → strike-free-lts.Need-add-b (strike-free-calls 
 strike-free-add-b t c = omega (arith, c .before .loop-test .taken, c .before .before .before .before .before .before .before .before .pre .1 .end-in, c .before .before .before .before .before .before .before .before .pre .1 .world .slots-fit)
 
 strike-free-open-block-requires-2 : (t : ℕ) → strike-free-lts.Need-open-block-requires-2 (strike-free-calls t) (strike-free-at t) strike-free.Post strike-free-Inv-loop strike-free-μ-loop
-strike-free-open-block-requires-2 t c κs =
-    let pruning = c .before .before .before .before .before .before .before .before .before .pre .1 in
-    block-asked pruning (world-moved (pruning .world) (c .before .before .before .loop .inv .done .moved)) (omega (arith, c .before .before .before .loop .inv .left .start-in))
+strike-free-open-block-requires-2 t c κs = turn-asked (c .before .before .before .before .before .before .before .before .before .pre .1) (c .before .before .before .loop .inv)
 
 strike-free-loop-less : (t : ℕ) → strike-free-lts.Need-loop-less (strike-free-calls t) (strike-free-at t) strike-free.Post strike-free-Inv-loop strike-free-μ-loop
 strike-free-loop-less t c = omega (arith, c .before .before .before .loop-test .taken, c .open-block2 .ensures .word)
 
 strike-free-loop-again : (t : ℕ) → strike-free-lts.Need-loop-again (strike-free-calls t) (strike-free-at t) strike-free.Post strike-free-Inv-loop strike-free-μ-loop
-strike-free-loop-again t c =
-    let pruning = c .before .before .before .before .before .before .before .before .before .before .pre .1 in
-    let inv = c .before .before .before .before .loop .inv in
-    record {
-      done =
-          filtered-goal (inv .done)
-          (λ live swept.
-          swept-block (pruning .end-in) (inv .done .moved .opens (pruning .opens)) (c .before .before .if1 .taken) swept (c .open-block2 .ensures));
-      left = left-block (omega (arith, inv .left .start-in)) (c .open-block2 .ensures);
-    }
+strike-free-loop-again t c = turn-block (c .before .before .before .before .before .before .before .before .before .before .pre .1) (c .before .before .before .before .loop .inv) (c .before .before .if1 .taken) (c .open-block2 .ensures)
 
 strike-free-lowest-requires : (t : ℕ) → strike-free-lts.Need-lowest-requires (strike-free-calls t) (strike-free-at t) strike-free.Post strike-free-Inv-loop strike-free-μ-loop
 strike-free-lowest-requires t c κs = omega (arith, c .if1 .left)
@@ -695,155 +635,96 @@ strike-free-add-slot t c = omega (arith, c .before .before .before .loop-test .t
 strike-free-is-free-requires : (t : ℕ) → strike-free-lts.Need-is-free-requires (strike-free-calls t) (strike-free-at t) strike-free.Post strike-free-Inv-loop strike-free-μ-loop
 strike-free-is-free-requires t c κs =
     let pruning = c .before .before .before .before .before .before .before .before .before .before .before .pre .1 in (
-      omega (arith, c .before .before .before .before .before .loop .inv .left .before (c .before .before .lowest .result) (c .before .before .lowest .ensures .1 .has), c .before .before .before .before .before .loop .inv .done .moved .within .len, pruning .end-in, pruning .world .slots),
+      turn-slot pruning (c .before .before .before .before .before .loop .inv) (c .before .before .lowest .result) (c .before .before .lowest .ensures .1 .has),
       omega (arith, pruning .value-in, pruning .world .values-fit),
     )
 
 strike-free-loop-less-2 : (t : ℕ) → strike-free-lts.Need-loop-less-2 (strike-free-calls t) (strike-free-at t) strike-free.Post strike-free-Inv-loop strike-free-μ-loop
-strike-free-loop-less-2 t c = omega (arith, left-less (c .before .before .before .before .before .before .before .loop .inv .left) (c .before .before .before .before .lowest .result) (c .before .before .before .before .lowest .ensures .1 .has) (c .before .before .before .less .ensures))
+strike-free-loop-less-2 t c = omega (arith, turn-less (c .before .before .before .before .before .before .before .before .before .before .before .before .before .pre .1) (c .before .before .before .before .before .before .before .loop .inv) (c .before .before .before .before .lowest .result) (c .before .before .before .before .lowest .ensures .1 .has) (c .before .before .before .less .ensures))
 
 strike-free-loop-again-2 : (t : ℕ) → strike-free-lts.Need-loop-again-2 (strike-free-calls t) (strike-free-at t) strike-free.Post strike-free-Inv-loop strike-free-μ-loop
-strike-free-loop-again-2 t c =
-    let fixed = free-no _ _ {r = c .before .is-free .result} (not-true _ (c .if2 .taken)) (c .before .is-free .ensures) in
-    record {
-      done = filtered-goal (c .before .before .before .before .before .before .before .loop .inv .done) (λ live swept. swept-slot (c .before .before .before .before .lowest .result) (c .before .before .before .less .ensures) refl (subset-refl _) fixed swept);
-      left = left-next (c .before .before .before .before .before .before .before .loop .inv .left) (c .before .before .before .before .lowest .result) (c .before .before .before .before .lowest .ensures .1 .has) (c .before .before .before .less .ensures);
-    }
+strike-free-loop-again-2 t c = turn-settled (c .before .before .before .before .before .before .before .before .before .before .before .before .before .pre .1) (c .before .before .before .before .before .before .before .loop .inv) (c .before .before .before .before .lowest .result) (c .before .before .before .before .lowest .ensures .1 .has) (c .before .before .before .less .ensures) (free-no _ _ {r = c .before .is-free .result} (not-true _ (c .if2 .taken)) (c .before .is-free .ensures))
 
 strike-free-is-wide-requires : (t : ℕ) → strike-free-lts.Need-is-wide-requires (strike-free-calls t) (strike-free-at t) strike-free.Post strike-free-Inv-loop strike-free-μ-loop
-strike-free-is-wide-requires t c κs =
-    let pruning = c .before .before .before .before .before .before .before .before .before .before .before .before .before .before .pre .1 in
-    omega (arith, c .before .before .before .before .before .before .before .before .loop .inv .left .before (c .before .before .before .before .before .lowest .result) (c .before .before .before .before .before .lowest .ensures .1 .has), c .before .before .before .before .before .before .before .before .loop .inv .done .moved .within .len, pruning .end-in, pruning .world .slots)
+strike-free-is-wide-requires t c κs = turn-slot (c .before .before .before .before .before .before .before .before .before .before .before .before .before .before .pre .1) (c .before .before .before .before .before .before .before .before .loop .inv) (c .before .before .before .before .before .lowest .result) (c .before .before .before .before .before .lowest .ensures .1 .has)
+
+-- the slot is free
+strike-free-free : (t : ℕ) (c : strike-free-lts.Else2 (strike-free-calls t) (strike-free-at t) strike-free.Post strike-free-Inv-loop strike-free-μ-loop) → HasAt (c .before .before .before .before .before .before .before .loop .masks) (32 * c .before .before .before .before .before .before .before .loop .b + c .before .before .before .before .lowest .result) (c .before .before .before .before .before .before .before .before .before .before .before .before .before .args .v)
+    × (FixedAt (c .before .before .before .before .before .before .before .loop .masks) (32 * c .before .before .before .before .before .before .before .loop .b + c .before .before .before .before .lowest .result) (c .before .before .before .before .before .before .before .before .before .before .before .before .before .args .v) → ⊥)
+strike-free-free t c = free-yes _ _ {r = c .before .is-free .result} (not-false _ (c .if2 .left)) (c .before .is-free .ensures)
 
 strike-free-strike-requires : (t : ℕ) → strike-free-lts.Need-strike-requires (strike-free-calls t) (strike-free-at t) strike-free.Post strike-free-Inv-loop strike-free-μ-loop
 strike-free-strike-requires t c κs =
-    let pre = c .before .before .before .before .before .before .before .before .before .before .before .before .before .before .before .before .before .before .before .pre in
-    let done = c .before .before .before .before .before .before .before .before .before .before .before .before .before .loop .inv .done in (
-      omega (arith, total-less (done .moved .within), pre .0),
-      record {
-        world = world-moved (pre .1 .world) (done .moved);
-        opens = done .moved .opens (pre .1 .opens);
-        slot-in = omega (arith, c .before .before .before .before .before .before .before .before .before .before .before .before .before .loop .inv .left .before (c .before .before .before .before .before .before .before .before .before .before .lowest .result) (c .before .before .before .before .before .before .before .before .before .before .lowest .ensures .1 .has), pre .1 .end-in);
-        value-in = pre .1 .value-in;
-      },
+    let pre = c .before .before .before .before .before .before .before .before .before .before .before .before .before .before .before .before .before .before .before .pre in (
+      omega (arith, total-less (c .before .before .before .before .before .before .before .before .before .before .before .before .before .loop .inv .done .moved .within), pre .0),
+      turn-ready (pre .1) (c .before .before .before .before .before .before .before .before .before .before .before .before .before .loop .inv) (c .before .before .before .before .before .before .before .before .before .before .lowest .result) (c .before .before .before .before .before .before .before .before .before .before .lowest .ensures .1 .has),
     )
 
 strike-free-is-dead-requires : (t : ℕ) → strike-free-lts.Need-is-dead-requires (strike-free-calls t) (strike-free-at t) strike-free.Post strike-free-Inv-loop strike-free-μ-loop
 strike-free-is-dead-requires t c κs = search needs
 
 strike-free-returns : (t : ℕ) → strike-free-lts.Need-returns (strike-free-calls t) (strike-free-at t) strike-free.Post strike-free-Inv-loop strike-free-μ-loop
-strike-free-returns t c =
-    let done = c .before .before .before .before .before .before .before .before .before .before .before .before .before .before .before .before .before .before .before .before .before .before .loop .inv .done in
-    let args = c .before .before .before .before .before .before .before .before .before .before .before .before .before .before .before .before .before .before .before .before .before .before .before .before .before .before .before .before .args in
-    let slot = 32 * c .before .before .before .before .before .before .before .before .before .before .before .before .before .before .before .before .before .before .before .before .before .before .loop .b + c .before .before .before .before .before .before .before .before .before .before .before .before .before .before .before .before .before .before .before .lowest .result in
-    let free = free-yes _ _ {r = c .before .before .before .before .before .before .before .before .before .before .before .before .before .before .before .before .is-free .result} (not-false _ (c .before .before .before .before .before .before .before .before .before .before .before .before .before .before .before .if2 .left)) (c .before .before .before .before .before .before .before .before .before .before .before .before .before .before .before .before .is-free .ensures) in
-    let asks = free-concerned false (done .moved .within) slot (args .v) (free .0) (free .1) in
-    filtered-stop (c .before .is-dead .ensures) (c .if4 .taken) done (c .before .before .before .before .before .before .before .before .strike .ensures) (λ N cut. cut .each slot (c .before .before .before .before .before .before .before .before .before .before .before .before .before .before .before .before .before .before .before .before .before .before .loop .inv .left .before (c .before .before .before .before .before .before .before .before .before .before .before .before .before .before .before .before .before .before .before .lowest .result) (c .before .before .before .before .before .before .before .before .before .before .before .before .before .before .before .before .before .before .before .lowest .ensures .1 .has)) asks)
+strike-free-returns t c = turn-dead (c .before .before .before .before .before .before .before .before .before .before .before .before .before .before .before .before .before .before .before .before .before .before .before .before .before .before .before .before .pre .1) (c .before .before .before .before .before .before .before .before .before .before .before .before .before .before .before .before .before .before .before .before .before .before .loop .inv) (c .before .before .before .before .before .before .before .before .before .before .before .before .before .before .before .before .before .before .before .lowest .result) (c .before .before .before .before .before .before .before .before .before .before .before .before .before .before .before .before .before .before .before .lowest .ensures .1 .has) (strike-free-free t (c .before .before .before .before .before .before .before .before .before .before .before .before .before .before .before)) (c .before .is-dead .ensures) (c .if4 .taken) (c .before .before .before .before .before .before .before .before .strike .ensures)
 
 strike-free-height-requires : (t : ℕ) → strike-free-lts.Need-height-requires (strike-free-calls t) (strike-free-at t) strike-free.Post strike-free-Inv-loop strike-free-μ-loop
 strike-free-height-requires t c κs = search needs
 
 strike-free-loop-less-3 : (t : ℕ) → strike-free-lts.Need-loop-less-3 (strike-free-calls t) (strike-free-at t) strike-free.Post strike-free-Inv-loop strike-free-μ-loop
-strike-free-loop-less-3 t c = omega (arith, left-less (c .before .before .before .before .before .before .before .before .before .before .before .before .before .before .before .before .before .before .before .before .before .before .before .loop .inv .left) (c .before .before .before .before .before .before .before .before .before .before .before .before .before .before .before .before .before .before .before .before .lowest .result) (c .before .before .before .before .before .before .before .before .before .before .before .before .before .before .before .before .before .before .before .before .lowest .ensures .1 .has) (c .before .before .before .before .before .before .before .before .before .before .before .before .before .before .before .before .before .before .before .less .ensures))
+strike-free-loop-less-3 t c = omega (arith, turn-less (c .before .before .before .before .before .before .before .before .before .before .before .before .before .before .before .before .before .before .before .before .before .before .before .before .before .before .before .before .before .pre .1) (c .before .before .before .before .before .before .before .before .before .before .before .before .before .before .before .before .before .before .before .before .before .before .before .loop .inv) (c .before .before .before .before .before .before .before .before .before .before .before .before .before .before .before .before .before .before .before .before .lowest .result) (c .before .before .before .before .before .before .before .before .before .before .before .before .before .before .before .before .before .before .before .before .lowest .ensures .1 .has) (c .before .before .before .before .before .before .before .before .before .before .before .before .before .before .before .before .before .before .before .less .ensures))
 
 strike-free-loop-again-3 : (t : ℕ) → strike-free-lts.Need-loop-again-3 (strike-free-calls t) (strike-free-at t) strike-free.Post strike-free-Inv-loop strike-free-μ-loop
 strike-free-loop-again-3 t c =
-    let done = c .before .before .before .before .before .before .before .before .before .before .before .before .before .before .before .before .before .before .before .before .before .before .before .loop .inv .done in
-    let args = c .before .before .before .before .before .before .before .before .before .before .before .before .before .before .before .before .before .before .before .before .before .before .before .before .before .before .before .before .before .args in
-    let slot = 32 * c .before .before .before .before .before .before .before .before .before .before .before .before .before .before .before .before .before .before .before .before .before .before .before .loop .b + c .before .before .before .before .before .before .before .before .before .before .before .before .before .before .before .before .before .before .before .before .lowest .result in
-    let free = free-yes _ _ {r = c .before .before .before .before .before .before .before .before .before .before .before .before .before .before .before .before .before .is-free .result} (not-false _ (c .before .before .before .before .before .before .before .before .before .before .before .before .before .before .before .before .if2 .left)) (c .before .before .before .before .before .before .before .before .before .before .before .before .before .before .before .before .before .is-free .ensures) in
-    let asks = free-concerned false (done .moved .within) slot (args .v) (free .0) (free .1) in
-    record {
-      done =
-          filtered-more done (filtered-live (c .before .before .is-dead .ensures) (c .before .if4 .left) (c .height .ensures) (c .before .before .before .before .before .before .before .before .before .strike .ensures)) (λ N cut. cut .each slot (c .before .before .before .before .before .before .before .before .before .before .before .before .before .before .before .before .before .before .before .before .before .before .before .loop .inv .left .before (c .before .before .before .before .before .before .before .before .before .before .before .before .before .before .before .before .before .before .before .before .lowest .result) (c .before .before .before .before .before .before .before .before .before .before .before .before .before .before .before .before .before .before .before .before .lowest .ensures .1 .has)) asks)
-          (λ live swept cut. swept-cut false (c .before .before .before .before .before .before .before .before .before .before .before .before .before .before .before .before .before .before .before .before .lowest .result) (c .before .before .before .before .before .before .before .before .before .before .before .before .before .before .before .before .before .before .before .less .ensures) refl (c .before .before .before .before .before .before .before .before .before .strike .ensures .moved .within) cut swept);
-      left = left-next (c .before .before .before .before .before .before .before .before .before .before .before .before .before .before .before .before .before .before .before .before .before .before .before .loop .inv .left) (c .before .before .before .before .before .before .before .before .before .before .before .before .before .before .before .before .before .before .before .before .lowest .result) (c .before .before .before .before .before .before .before .before .before .before .before .before .before .before .before .before .before .before .before .before .lowest .ensures .1 .has) (c .before .before .before .before .before .before .before .before .before .before .before .before .before .before .before .before .before .before .before .less .ensures);
-    }
+    turn-cut (c .before .before .before .before .before .before .before .before .before .before .before .before .before .before .before .before .before .before .before .before .before .before .before .before .before .before .before .before .before .pre .1) (c .before .before .before .before .before .before .before .before .before .before .before .before .before .before .before .before .before .before .before .before .before .before .before .loop .inv) (c .before .before .before .before .before .before .before .before .before .before .before .before .before .before .before .before .before .before .before .before .lowest .result) (c .before .before .before .before .before .before .before .before .before .before .before .before .before .before .before .before .before .before .before .before .lowest .ensures .1 .has) (strike-free-free t (c .before .before .before .before .before .before .before .before .before .before .before .before .before .before .before .before)) (c .before .before .before .before .before .before .before .before .before .before .before .before .before .before .before .before .before .before .before .less .ensures)
+    (filtered-live (c .before .before .is-dead .ensures) (c .before .if4 .left) (c .height .ensures) (c .before .before .before .before .before .before .before .before .before .strike .ensures))
 
 strike-free-without-value-requires : (t : ℕ) → strike-free-lts.Need-without-value-requires (strike-free-calls t) (strike-free-at t) strike-free.Post strike-free-Inv-loop strike-free-μ-loop
 strike-free-without-value-requires t c κs =
     let pruning = c .before .before .before .before .before .before .before .before .before .before .before .before .before .before .before .before .before .pre .1 in (
-      omega (arith, c .before .before .before .before .before .before .before .before .before .before .before .loop .inv .left .before (c .before .before .before .before .before .before .before .before .lowest .result) (c .before .before .before .before .before .before .before .before .lowest .ensures .1 .has), c .before .before .before .before .before .before .before .before .before .before .before .loop .inv .done .moved .within .len, pruning .end-in, pruning .world .slots),
+      turn-slot pruning (c .before .before .before .before .before .before .before .before .before .before .before .loop .inv) (c .before .before .before .before .before .before .before .before .lowest .result) (c .before .before .before .before .before .before .before .before .lowest .ensures .1 .has),
       omega (arith, pruning .value-in, pruning .world .values-fit),
     )
 
 strike-free-thin-requires : (t : ℕ) → strike-free-lts.Need-thin-requires (strike-free-calls t) (strike-free-at t) strike-free.Post strike-free-Inv-loop strike-free-μ-loop
-strike-free-thin-requires t c κs =
-    let pre = c .before .before .before .before .before .before .before .before .before .before .before .before .before .before .before .before .before .before .before .before .before .pre in
-    let done = c .before .before .before .before .before .before .before .before .before .before .before .before .before .before .before .loop .inv .done in
-    let free = free-yes _ _ {r = c .before .before .before .before .before .before .before .before .before .is-free .result} (not-false _ (c .before .before .before .before .before .before .before .before .if2 .left)) (c .before .before .before .before .before .before .before .before .before .is-free .ensures) in (
-      record {
-        world = world-moved (pre .1 .world) (done .moved);
-        opens = done .moved .opens (pre .1 .opens);
-        slot-in = omega (arith, c .before .before .before .before .before .before .before .before .before .before .before .before .before .before .before .loop .inv .left .before (c .before .before .before .before .before .before .before .before .before .before .before .before .lowest .result) (c .before .before .before .before .before .before .before .before .before .before .before .before .lowest .ensures .1 .has), pre .1 .end-in);
-        value-in = pre .1 .value-in;
-      },
-      free .0,
-      ltb-true 2 _ (sym (c .before .before .before .before .before .before .is-wide .ensures) ∙ not-false _ (c .before .before .before .before .before .if3 .left)),
-      c .before .before .before .without-value .ensures,
-    )
+strike-free-thin-requires t c κs = (
+  turn-ready (c .before .before .before .before .before .before .before .before .before .before .before .before .before .before .before .before .before .before .before .before .before .pre .1) (c .before .before .before .before .before .before .before .before .before .before .before .before .before .before .before .loop .inv) (c .before .before .before .before .before .before .before .before .before .before .before .before .lowest .result) (c .before .before .before .before .before .before .before .before .before .before .before .before .lowest .ensures .1 .has),
+  strike-free-free t (c .before .before .before .before .before .before .before .before) .0,
+  ltb-true 2 _ (sym (c .before .before .before .before .before .before .is-wide .ensures) ∙ not-false _ (c .before .before .before .before .before .if3 .left)),
+  c .before .before .before .without-value .ensures,
+)
 
 strike-free-dead-at-requires : (t : ℕ) → strike-free-lts.Need-dead-at-requires (strike-free-calls t) (strike-free-at t) strike-free.Post strike-free-Inv-loop strike-free-μ-loop
 strike-free-dead-at-requires t c κs =
-    let done = c .before .before .before .before .before .before .before .before .before .before .before .before .before .before .before .before .before .before .before .before .before .before .before .loop .inv .done in
-    let world = world-moved (c .before .before .before .before .before .before .before .before .before .before .before .before .before .before .before .before .before .before .before .before .before .before .before .before .before .before .before .before .before .pre .1 .world) (done .moved) in
-    let size : length (c .before .before .before .before .before .before .before .before .before .before .before .before .before .before .before .before .before .before .before .before .before .before .before .loop .trail) ≡ length (c .before .before .before .before .before .before .before .before .before .before .before .before .before .before .before .before .before .before .before .before .before .before .before .before .before .before .before .before .before .args .trail .now) = done .moved .trailed .size in
-    omega (arith, world .room, size, c .before .before .before .before .before .before .before .before .before .before .before .before .before .before .before .before .before .before .before .before .before .before .before .before .before .before .before .before .before .good)
+    let size : length (c .before .before .before .before .before .before .before .before .before .before .before .before .before .before .before .before .before .before .before .before .before .before .before .loop .trail) ≡ length (c .before .before .before .before .before .before .before .before .before .before .before .before .before .before .before .before .before .before .before .before .before .before .before .before .before .before .before .before .before .args .trail .now) = c .before .before .before .before .before .before .before .before .before .before .before .before .before .before .before .before .before .before .before .before .before .before .before .loop .inv .done .moved .trailed .size in
+    omega (arith, turn-world (c .before .before .before .before .before .before .before .before .before .before .before .before .before .before .before .before .before .before .before .before .before .before .before .before .before .before .before .before .before .pre .1) (c .before .before .before .before .before .before .before .before .before .before .before .before .before .before .before .before .before .before .before .before .before .before .before .loop .inv) .room, size, c .before .before .before .before .before .before .before .before .before .before .before .before .before .before .before .before .before .before .before .before .before .before .before .before .before .before .before .before .before .good)
 
 strike-free-returns-2 : (t : ℕ) → strike-free-lts.Need-returns-2 (strike-free-calls t) (strike-free-at t) strike-free.Post strike-free-Inv-loop strike-free-μ-loop
 strike-free-returns-2 t c =
-    let done = c .before .before .before .before .before .before .before .before .before .before .before .before .before .before .before .before .before .before .before .before .before .before .before .before .loop .inv .done in
-    let args = c .before .before .before .before .before .before .before .before .before .before .before .before .before .before .before .before .before .before .before .before .before .before .before .before .before .before .before .before .before .before .args in
-    let slot = 32 * c .before .before .before .before .before .before .before .before .before .before .before .before .before .before .before .before .before .before .before .before .before .before .before .before .loop .b + c .before .before .before .before .before .before .before .before .before .before .before .before .before .before .before .before .before .before .before .before .before .lowest .result in
-    let free = free-yes _ _ {r = c .before .before .before .before .before .before .before .before .before .before .before .before .before .before .before .before .before .before .is-free .result} (not-false _ (c .before .before .before .before .before .before .before .before .before .before .before .before .before .before .before .before .before .if2 .left)) (c .before .before .before .before .before .before .before .before .before .before .before .before .before .before .before .before .before .before .is-free .ensures) in
-    let asks = free-concerned false (done .moved .within) slot (args .v) (free .0) (free .1) in
-    filtered-at (sym (c .dead-at .ensures)) (filtered-more done (strike-contradicted {G = λ (M : List ℕ). Unit {0}} (thinned-clash _ _ _ _ _ (c .before .before .before .before .before .before .before .before .before .before .before .before .before .before .before .before .before .before .before .before .before .before .before .before .loop .h) _ _ _ _ _ _ _ (c .before .before .before .before .before .before .before .before .thin .ensures) (c .before .if5 .taken))) (λ N cut. cut .each slot (c .before .before .before .before .before .before .before .before .before .before .before .before .before .before .before .before .before .before .before .before .before .before .before .before .loop .inv .left .before (c .before .before .before .before .before .before .before .before .before .before .before .before .before .before .before .before .before .before .before .before .before .lowest .result) (c .before .before .before .before .before .before .before .before .before .before .before .before .before .before .before .before .before .before .before .before .before .lowest .ensures .1 .has)) asks)
-    (λ no. absurd no))
+    filtered-at (sym (c .dead-at .ensures))
+    (turn-dead (c .before .before .before .before .before .before .before .before .before .before .before .before .before .before .before .before .before .before .before .before .before .before .before .before .before .before .before .before .before .before .pre .1) (c .before .before .before .before .before .before .before .before .before .before .before .before .before .before .before .before .before .before .before .before .before .before .before .before .loop .inv) (c .before .before .before .before .before .before .before .before .before .before .before .before .before .before .before .before .before .before .before .before .before .lowest .result) (c .before .before .before .before .before .before .before .before .before .before .before .before .before .before .before .before .before .before .before .before .before .lowest .ensures .1 .has) (strike-free-free t (c .before .before .before .before .before .before .before .before .before .before .before .before .before .before .before .before .before)) {dead = true} refl refl
+    (strike-contradicted {G = λ (M : List ℕ). Unit {0}} (thinned-clash _ _ _ _ _ (c .before .before .before .before .before .before .before .before .before .before .before .before .before .before .before .before .before .before .before .before .before .before .before .before .loop .h) _ _ _ _ _ _ _ (c .before .before .before .before .before .before .before .before .thin .ensures) (c .before .if5 .taken))))
 
 strike-free-add-h : (t : ℕ) → strike-free-lts.Need-add-h (strike-free-calls t) (strike-free-at t) strike-free.Post strike-free-Inv-loop strike-free-μ-loop
 strike-free-add-h t c =
-    let pre = c .before .before .before .before .before .before .before .before .before .before .before .before .before .before .before .before .before .before .before .before .before .before .before .before .before .before .before .before .before .pre in
-    let args = c .before .before .before .before .before .before .before .before .before .before .before .before .before .before .before .before .before .before .before .before .before .before .before .before .before .before .before .before .before .args in
-    let done = c .before .before .before .before .before .before .before .before .before .before .before .before .before .before .before .before .before .before .before .before .before .before .before .loop .inv .done in
-    let free = free-yes _ _ {r = c .before .before .before .before .before .before .before .before .before .before .before .before .before .before .before .before .before .is-free .result} (not-false _ (c .before .before .before .before .before .before .before .before .before .before .before .before .before .before .before .before .if2 .left)) (c .before .before .before .before .before .before .before .before .before .before .before .before .before .before .before .before .before .is-free .ensures) in
-    let room = ready-room (record {
-      world = world-moved (pre .1 .world) (done .moved);
-      opens = done .moved .opens (pre .1 .opens);
-      slot-in = omega (arith, c .before .before .before .before .before .before .before .before .before .before .before .before .before .before .before .before .before .before .before .before .before .before .before .loop .inv .left .before (c .before .before .before .before .before .before .before .before .before .before .before .before .before .before .before .before .before .before .before .before .lowest .result) (c .before .before .before .before .before .before .before .before .before .before .before .before .before .before .before .before .before .before .before .before .lowest .ensures .1 .has), pre .1 .end-in);
-      value-in = pre .1 .value-in;
-    }) (free .0) in
-    let size : length (c .before .before .before .before .before .before .before .before .before .before .before .before .before .before .before .before .before .before .before .before .before .before .before .loop .trail) ≡ length (args .trail .now) = done .moved .trailed .size in
-    omega (arith, room, size, c .before .before .before .before .before .before .before .before .before .before .before .before .before .before .before .before .before .before .before .before .before .before .before .before .before .before .before .before .before .good)
+    let size : length (c .before .before .before .before .before .before .before .before .before .before .before .before .before .before .before .before .before .before .before .before .before .before .before .loop .trail) ≡ length (c .before .before .before .before .before .before .before .before .before .before .before .before .before .before .before .before .before .before .before .before .before .before .before .before .before .before .before .before .before .args .trail .now) = c .before .before .before .before .before .before .before .before .before .before .before .before .before .before .before .before .before .before .before .before .before .before .before .loop .inv .done .moved .trailed .size in
+    omega (arith, ready-room (turn-ready (c .before .before .before .before .before .before .before .before .before .before .before .before .before .before .before .before .before .before .before .before .before .before .before .before .before .before .before .before .before .pre .1) (c .before .before .before .before .before .before .before .before .before .before .before .before .before .before .before .before .before .before .before .before .before .before .before .loop .inv) (c .before .before .before .before .before .before .before .before .before .before .before .before .before .before .before .before .before .before .before .before .lowest .result) (c .before .before .before .before .before .before .before .before .before .before .before .before .before .before .before .before .before .before .before .before .lowest .ensures .1 .has)) (strike-free-free t (c .before .before .before .before .before .before .before .before .before .before .before .before .before .before .before .before) .0), size, c .before .before .before .before .before .before .before .before .before .before .before .before .before .before .before .before .before .before .before .before .before .before .before .before .before .before .before .before .before .good)
 
 strike-free-loop-less-4 : (t : ℕ) → strike-free-lts.Need-loop-less-4 (strike-free-calls t) (strike-free-at t) strike-free.Post strike-free-Inv-loop strike-free-μ-loop
-strike-free-loop-less-4 t c = omega (arith, left-less (c .before .before .before .before .before .before .before .before .before .before .before .before .before .before .before .before .before .before .before .before .before .before .before .before .before .loop .inv .left) (c .before .before .before .before .before .before .before .before .before .before .before .before .before .before .before .before .before .before .before .before .before .before .lowest .result) (c .before .before .before .before .before .before .before .before .before .before .before .before .before .before .before .before .before .before .before .before .before .before .lowest .ensures .1 .has) (c .before .before .before .before .before .before .before .before .before .before .before .before .before .before .before .before .before .before .before .before .before .less .ensures))
+strike-free-loop-less-4 t c = omega (arith, turn-less (c .before .before .before .before .before .before .before .before .before .before .before .before .before .before .before .before .before .before .before .before .before .before .before .before .before .before .before .before .before .before .before .pre .1) (c .before .before .before .before .before .before .before .before .before .before .before .before .before .before .before .before .before .before .before .before .before .before .before .before .before .loop .inv) (c .before .before .before .before .before .before .before .before .before .before .before .before .before .before .before .before .before .before .before .before .before .before .lowest .result) (c .before .before .before .before .before .before .before .before .before .before .before .before .before .before .before .before .before .before .before .before .before .before .lowest .ensures .1 .has) (c .before .before .before .before .before .before .before .before .before .before .before .before .before .before .before .before .before .before .before .before .before .less .ensures))
 
 strike-free-loop-again-4 : (t : ℕ) → strike-free-lts.Need-loop-again-4 (strike-free-calls t) (strike-free-at t) strike-free.Post strike-free-Inv-loop strike-free-μ-loop
 strike-free-loop-again-4 t c =
     let removed = thinned-made _ _ _ _ _ (c .before .before .before .before .before .before .before .before .before .before .before .before .before .before .before .before .before .before .before .before .before .before .before .before .before .loop .h) _ _ _ _ _ _ _ (c .before .before .before .before .before .before .before .before .before .thin .ensures) (c .before .before .if5 .left) in
-    let done = c .before .before .before .before .before .before .before .before .before .before .before .before .before .before .before .before .before .before .before .before .before .before .before .before .before .loop .inv .done in
-    let args = c .before .before .before .before .before .before .before .before .before .before .before .before .before .before .before .before .before .before .before .before .before .before .before .before .before .before .before .before .before .before .before .args in
-    let slot = 32 * c .before .before .before .before .before .before .before .before .before .before .before .before .before .before .before .before .before .before .before .before .before .before .before .before .before .loop .b + c .before .before .before .before .before .before .before .before .before .before .before .before .before .before .before .before .before .before .before .before .before .before .lowest .result in
-    let free = free-yes _ _ {r = c .before .before .before .before .before .before .before .before .before .before .before .before .before .before .before .before .before .before .before .is-free .result} (not-false _ (c .before .before .before .before .before .before .before .before .before .before .before .before .before .before .before .before .before .before .if2 .left)) (c .before .before .before .before .before .before .before .before .before .before .before .before .before .before .before .before .before .before .before .is-free .ensures) in
-    let asks = free-concerned false (done .moved .within) slot (args .v) (free .0) (free .1) in
-    record {
-      done =
-          filtered-more done (thin-quiet removed (c .if6 .taken)) (λ N cut. cut .each slot (c .before .before .before .before .before .before .before .before .before .before .before .before .before .before .before .before .before .before .before .before .before .before .before .before .before .loop .inv .left .before (c .before .before .before .before .before .before .before .before .before .before .before .before .before .before .before .before .before .before .before .before .before .before .lowest .result) (c .before .before .before .before .before .before .before .before .before .before .before .before .before .before .before .before .before .before .before .before .before .before .lowest .ensures .1 .has)) asks)
-          (λ live swept cut. swept-cut false (c .before .before .before .before .before .before .before .before .before .before .before .before .before .before .before .before .before .before .before .before .before .before .lowest .result) (c .before .before .before .before .before .before .before .before .before .before .before .before .before .before .before .before .before .before .before .before .before .less .ensures) refl (removed .moved .within) cut swept);
-      left = left-next (c .before .before .before .before .before .before .before .before .before .before .before .before .before .before .before .before .before .before .before .before .before .before .before .before .before .loop .inv .left) (c .before .before .before .before .before .before .before .before .before .before .before .before .before .before .before .before .before .before .before .before .before .before .lowest .result) (c .before .before .before .before .before .before .before .before .before .before .before .before .before .before .before .before .before .before .before .before .before .before .lowest .ensures .1 .has) (c .before .before .before .before .before .before .before .before .before .before .before .before .before .before .before .before .before .before .before .before .before .less .ensures);
-    }
+    turn-cut (c .before .before .before .before .before .before .before .before .before .before .before .before .before .before .before .before .before .before .before .before .before .before .before .before .before .before .before .before .before .before .before .pre .1) (c .before .before .before .before .before .before .before .before .before .before .before .before .before .before .before .before .before .before .before .before .before .before .before .before .before .loop .inv) (c .before .before .before .before .before .before .before .before .before .before .before .before .before .before .before .before .before .before .before .before .before .before .lowest .result) (c .before .before .before .before .before .before .before .before .before .before .before .before .before .before .before .before .before .before .before .before .before .before .lowest .ensures .1 .has) (strike-free-free t (c .before .before .before .before .before .before .before .before .before .before .before .before .before .before .before .before .before .before)) (c .before .before .before .before .before .before .before .before .before .before .before .before .before .before .before .before .before .before .before .before .before .less .ensures) (thin-quiet removed (c .if6 .taken))
 
 strike-free-fix-free-requires : (t : ℕ) → strike-free-lts.Need-fix-free-requires (strike-free-calls t) (strike-free-at t) strike-free.Post strike-free-Inv-loop strike-free-μ-loop
 strike-free-fix-free-requires t c κs =
-    let done = c .before .before .before .before .before .before .before .before .before .before .before .before .before .before .before .before .before .before .before .before .before .before .before .before .before .before .before .before .loop .inv .done in
-    let pre = c .before .before .before .before .before .before .before .before .before .before .before .before .before .before .before .before .before .before .before .before .before .before .before .before .before .before .before .before .before .before .before .before .before .before .pre in
     let removed = thinned-made _ _ _ _ _ (c .before .before .before .before .before .before .before .before .before .before .before .before .before .before .before .before .before .before .before .before .before .before .before .before .before .before .before .before .loop .h) _ _ _ _ _ _ _ (c .before .before .before .before .before .before .before .before .before .before .before .before .thin .ensures) (c .before .before .before .before .before .if5 .left) in (
-      omega (arith, removed .moved .height, total-less (done .moved .within), pre .0),
+      omega (arith, removed .moved .height, total-less (c .before .before .before .before .before .before .before .before .before .before .before .before .before .before .before .before .before .before .before .before .before .before .before .before .before .before .before .before .loop .inv .done .moved .within), c .before .before .before .before .before .before .before .before .before .before .before .before .before .before .before .before .before .before .before .before .before .before .before .before .before .before .before .before .before .before .before .before .before .before .pre .0),
       record {
-        world = world-moved (world-moved (pre .1 .world) (done .moved)) (removed .moved);
-        opens = removed .moved .opens (done .moved .opens (pre .1 .opens));
+        world = world-moved (turn-world (c .before .before .before .before .before .before .before .before .before .before .before .before .before .before .before .before .before .before .before .before .before .before .before .before .before .before .before .before .before .before .before .before .before .before .pre .1) (c .before .before .before .before .before .before .before .before .before .before .before .before .before .before .before .before .before .before .before .before .before .before .before .before .before .before .before .before .loop .inv)) (removed .moved);
+        opens = removed .moved .opens (c .before .before .before .before .before .before .before .before .before .before .before .before .before .before .before .before .before .before .before .before .before .before .before .before .before .before .before .before .loop .inv .done .moved .opens (c .before .before .before .before .before .before .before .before .before .before .before .before .before .before .before .before .before .before .before .before .before .before .before .before .before .before .before .before .before .before .before .before .before .before .pre .1 .opens));
         end-in = removed .low-in;
-        value-in = pre .1 .value-in;
+        value-in = c .before .before .before .before .before .before .before .before .before .before .before .before .before .before .before .before .before .before .before .before .before .before .before .before .before .before .before .before .before .before .before .before .before .before .pre .1 .value-in;
       },
     )
 
@@ -853,44 +734,27 @@ strike-free-is-dead-requires-2 t c κs = search needs
 strike-free-returns-3 : (t : ℕ) → strike-free-lts.Need-returns-3 (strike-free-calls t) (strike-free-at t) strike-free.Post strike-free-Inv-loop strike-free-μ-loop
 strike-free-returns-3 t c =
     let removed = thinned-made _ _ _ _ _ (c .before .before .before .before .before .before .before .before .before .before .before .before .before .before .before .before .before .before .before .before .before .before .before .before .before .before .before .before .before .before .before .before .before .before .before .before .before .loop .h) _ _ _ _ _ _ _ (c .before .before .before .before .before .before .before .before .before .before .before .before .before .before .before .before .before .before .before .before .before .thin .ensures) (c .before .before .before .before .before .before .before .before .before .before .before .before .before .before .if5 .left) in
-    let done = c .before .before .before .before .before .before .before .before .before .before .before .before .before .before .before .before .before .before .before .before .before .before .before .before .before .before .before .before .before .before .before .before .before .before .before .before .before .loop .inv .done in
-    let args = c .before .before .before .before .before .before .before .before .before .before .before .before .before .before .before .before .before .before .before .before .before .before .before .before .before .before .before .before .before .before .before .before .before .before .before .before .before .before .before .before .before .before .before .args in
-    let slot = 32 * c .before .before .before .before .before .before .before .before .before .before .before .before .before .before .before .before .before .before .before .before .before .before .before .before .before .before .before .before .before .before .before .before .before .before .before .before .before .loop .b + c .before .before .before .before .before .before .before .before .before .before .before .before .before .before .before .before .before .before .before .before .before .before .before .before .before .before .before .before .before .before .before .before .before .before .lowest .result in
-    let free = free-yes _ _ {r = c .before .before .before .before .before .before .before .before .before .before .before .before .before .before .before .before .before .before .before .before .before .before .before .before .before .before .before .before .before .before .before .is-free .result} (not-false _ (c .before .before .before .before .before .before .before .before .before .before .before .before .before .before .before .before .before .before .before .before .before .before .before .before .before .before .before .before .before .before .if2 .left)) (c .before .before .before .before .before .before .before .before .before .before .before .before .before .before .before .before .before .before .before .before .before .before .before .before .before .before .before .before .before .before .before .is-free .ensures) in
-    let asks = free-concerned false (done .moved .within) slot (args .v) (free .0) (free .1) in
-    filtered-stop (c .before .is-dead2 .ensures) (c .if7 .taken) done (thin-followed removed (c .before .before .before .before .before .before .before .before .fix-free .ensures)) (λ N cut. cut .each slot (c .before .before .before .before .before .before .before .before .before .before .before .before .before .before .before .before .before .before .before .before .before .before .before .before .before .before .before .before .before .before .before .before .before .before .before .before .before .loop .inv .left .before (c .before .before .before .before .before .before .before .before .before .before .before .before .before .before .before .before .before .before .before .before .before .before .before .before .before .before .before .before .before .before .before .before .before .before .lowest .result) (c .before .before .before .before .before .before .before .before .before .before .before .before .before .before .before .before .before .before .before .before .before .before .before .before .before .before .before .before .before .before .before .before .before .before .lowest .ensures .1 .has)) asks)
+    turn-dead (c .before .before .before .before .before .before .before .before .before .before .before .before .before .before .before .before .before .before .before .before .before .before .before .before .before .before .before .before .before .before .before .before .before .before .before .before .before .before .before .before .before .before .before .pre .1) (c .before .before .before .before .before .before .before .before .before .before .before .before .before .before .before .before .before .before .before .before .before .before .before .before .before .before .before .before .before .before .before .before .before .before .before .before .before .loop .inv) (c .before .before .before .before .before .before .before .before .before .before .before .before .before .before .before .before .before .before .before .before .before .before .before .before .before .before .before .before .before .before .before .before .before .before .lowest .result) (c .before .before .before .before .before .before .before .before .before .before .before .before .before .before .before .before .before .before .before .before .before .before .before .before .before .before .before .before .before .before .before .before .before .before .lowest .ensures .1 .has) (strike-free-free t (c .before .before .before .before .before .before .before .before .before .before .before .before .before .before .before .before .before .before .before .before .before .before .before .before .before .before .before .before .before .before)) (c .before .is-dead2 .ensures) (c .if7 .taken) (thin-followed removed (c .before .before .before .before .before .before .before .before .fix-free .ensures))
 
 strike-free-height-requires-2 : (t : ℕ) → strike-free-lts.Need-height-requires-2 (strike-free-calls t) (strike-free-at t) strike-free.Post strike-free-Inv-loop strike-free-μ-loop
 strike-free-height-requires-2 t c κs = search needs
 
 strike-free-loop-less-5 : (t : ℕ) → strike-free-lts.Need-loop-less-5 (strike-free-calls t) (strike-free-at t) strike-free.Post strike-free-Inv-loop strike-free-μ-loop
-strike-free-loop-less-5 t c = omega (arith, left-less (c .before .before .before .before .before .before .before .before .before .before .before .before .before .before .before .before .before .before .before .before .before .before .before .before .before .before .before .before .before .before .before .before .before .before .before .before .before .before .loop .inv .left) (c .before .before .before .before .before .before .before .before .before .before .before .before .before .before .before .before .before .before .before .before .before .before .before .before .before .before .before .before .before .before .before .before .before .before .before .lowest .result) (c .before .before .before .before .before .before .before .before .before .before .before .before .before .before .before .before .before .before .before .before .before .before .before .before .before .before .before .before .before .before .before .before .before .before .before .lowest .ensures .1 .has) (c .before .before .before .before .before .before .before .before .before .before .before .before .before .before .before .before .before .before .before .before .before .before .before .before .before .before .before .before .before .before .before .before .before .before .less .ensures))
+strike-free-loop-less-5 t c = omega (arith, turn-less (c .before .before .before .before .before .before .before .before .before .before .before .before .before .before .before .before .before .before .before .before .before .before .before .before .before .before .before .before .before .before .before .before .before .before .before .before .before .before .before .before .before .before .before .before .pre .1) (c .before .before .before .before .before .before .before .before .before .before .before .before .before .before .before .before .before .before .before .before .before .before .before .before .before .before .before .before .before .before .before .before .before .before .before .before .before .before .loop .inv) (c .before .before .before .before .before .before .before .before .before .before .before .before .before .before .before .before .before .before .before .before .before .before .before .before .before .before .before .before .before .before .before .before .before .before .before .lowest .result) (c .before .before .before .before .before .before .before .before .before .before .before .before .before .before .before .before .before .before .before .before .before .before .before .before .before .before .before .before .before .before .before .before .before .before .before .lowest .ensures .1 .has) (c .before .before .before .before .before .before .before .before .before .before .before .before .before .before .before .before .before .before .before .before .before .before .before .before .before .before .before .before .before .before .before .before .before .before .less .ensures))
 
 strike-free-loop-again-5 : (t : ℕ) → strike-free-lts.Need-loop-again-5 (strike-free-calls t) (strike-free-at t) strike-free.Post strike-free-Inv-loop strike-free-μ-loop
 strike-free-loop-again-5 t c =
     let removed = thinned-made _ _ _ _ _ (c .before .before .before .before .before .before .before .before .before .before .before .before .before .before .before .before .before .before .before .before .before .before .before .before .before .before .before .before .before .before .before .before .before .before .before .before .before .before .loop .h) _ _ _ _ _ _ _ (c .before .before .before .before .before .before .before .before .before .before .before .before .before .before .before .before .before .before .before .before .before .before .thin .ensures) (c .before .before .before .before .before .before .before .before .before .before .before .before .before .before .before .if5 .left) in
-    let followed = filtered-live (c .before .before .is-dead2 .ensures) (c .before .if7 .left) (c .height2 .ensures) (thin-followed removed (c .before .before .before .before .before .before .before .before .before .fix-free .ensures)) in
-    let done = c .before .before .before .before .before .before .before .before .before .before .before .before .before .before .before .before .before .before .before .before .before .before .before .before .before .before .before .before .before .before .before .before .before .before .before .before .before .before .loop .inv .done in
-    let args = c .before .before .before .before .before .before .before .before .before .before .before .before .before .before .before .before .before .before .before .before .before .before .before .before .before .before .before .before .before .before .before .before .before .before .before .before .before .before .before .before .before .before .before .before .args in
-    let slot = 32 * c .before .before .before .before .before .before .before .before .before .before .before .before .before .before .before .before .before .before .before .before .before .before .before .before .before .before .before .before .before .before .before .before .before .before .before .before .before .before .loop .b + c .before .before .before .before .before .before .before .before .before .before .before .before .before .before .before .before .before .before .before .before .before .before .before .before .before .before .before .before .before .before .before .before .before .before .before .lowest .result in
-    let free = free-yes _ _ {r = c .before .before .before .before .before .before .before .before .before .before .before .before .before .before .before .before .before .before .before .before .before .before .before .before .before .before .before .before .before .before .before .before .is-free .result} (not-false _ (c .before .before .before .before .before .before .before .before .before .before .before .before .before .before .before .before .before .before .before .before .before .before .before .before .before .before .before .before .before .before .before .if2 .left)) (c .before .before .before .before .before .before .before .before .before .before .before .before .before .before .before .before .before .before .before .before .before .before .before .before .before .before .before .before .before .before .before .before .is-free .ensures) in
-    let asks = free-concerned false (done .moved .within) slot (args .v) (free .0) (free .1) in
-    record {
-      done =
-          filtered-more done (followed) (λ N cut. cut .each slot (c .before .before .before .before .before .before .before .before .before .before .before .before .before .before .before .before .before .before .before .before .before .before .before .before .before .before .before .before .before .before .before .before .before .before .before .before .before .before .loop .inv .left .before (c .before .before .before .before .before .before .before .before .before .before .before .before .before .before .before .before .before .before .before .before .before .before .before .before .before .before .before .before .before .before .before .before .before .before .before .lowest .result) (c .before .before .before .before .before .before .before .before .before .before .before .before .before .before .before .before .before .before .before .before .before .before .before .before .before .before .before .before .before .before .before .before .before .before .before .lowest .ensures .1 .has)) asks)
-          (λ live swept cut. swept-cut false (c .before .before .before .before .before .before .before .before .before .before .before .before .before .before .before .before .before .before .before .before .before .before .before .before .before .before .before .before .before .before .before .before .before .before .before .lowest .result) (c .before .before .before .before .before .before .before .before .before .before .before .before .before .before .before .before .before .before .before .before .before .before .before .before .before .before .before .before .before .before .before .before .before .before .less .ensures) refl (followed .moved .within) cut swept);
-      left = left-next (c .before .before .before .before .before .before .before .before .before .before .before .before .before .before .before .before .before .before .before .before .before .before .before .before .before .before .before .before .before .before .before .before .before .before .before .before .before .before .loop .inv .left) (c .before .before .before .before .before .before .before .before .before .before .before .before .before .before .before .before .before .before .before .before .before .before .before .before .before .before .before .before .before .before .before .before .before .before .before .lowest .result) (c .before .before .before .before .before .before .before .before .before .before .before .before .before .before .before .before .before .before .before .before .before .before .before .before .before .before .before .before .before .before .before .before .before .before .before .lowest .ensures .1 .has) (c .before .before .before .before .before .before .before .before .before .before .before .before .before .before .before .before .before .before .before .before .before .before .before .before .before .before .before .before .before .before .before .before .before .before .less .ensures);
-    }
+    turn-cut (c .before .before .before .before .before .before .before .before .before .before .before .before .before .before .before .before .before .before .before .before .before .before .before .before .before .before .before .before .before .before .before .before .before .before .before .before .before .before .before .before .before .before .before .before .pre .1) (c .before .before .before .before .before .before .before .before .before .before .before .before .before .before .before .before .before .before .before .before .before .before .before .before .before .before .before .before .before .before .before .before .before .before .before .before .before .before .loop .inv) (c .before .before .before .before .before .before .before .before .before .before .before .before .before .before .before .before .before .before .before .before .before .before .before .before .before .before .before .before .before .before .before .before .before .before .before .lowest .result) (c .before .before .before .before .before .before .before .before .before .before .before .before .before .before .before .before .before .before .before .before .before .before .before .before .before .before .before .before .before .before .before .before .before .before .before .lowest .ensures .1 .has) (strike-free-free t (c .before .before .before .before .before .before .before .before .before .before .before .before .before .before .before .before .before .before .before .before .before .before .before .before .before .before .before .before .before .before .before)) (c .before .before .before .before .before .before .before .before .before .before .before .before .before .before .before .before .before .before .before .before .before .before .before .before .before .before .before .before .before .before .before .before .before .before .less .ensures)
+    (filtered-live (c .before .before .is-dead2 .ensures) (c .before .if7 .left) (c .height2 .ensures) (thin-followed removed (c .before .before .before .before .before .before .before .before .before .fix-free .ensures)))
 
 strike-free-live-at-requires : (t : ℕ) → strike-free-lts.Need-live-at-requires (strike-free-calls t) (strike-free-at t) strike-free.Post strike-free-Inv-loop strike-free-μ-loop
 strike-free-live-at-requires t c κs =
-    let done = c .before .loop .inv .done in
-    let world = world-moved (c .before .before .before .before .before .before .before .pre .1 .world) (done .moved) in
-    let size : length (c .before .loop .trail) ≡ length (c .before .before .before .before .before .before .before .args .trail .now) = done .moved .trailed .size in
-    omega (arith, world .room, size, c .before .before .before .before .before .before .before .good)
+    let size : length (c .before .loop .trail) ≡ length (c .before .before .before .before .before .before .before .args .trail .now) = c .before .loop .inv .done .moved .trailed .size in
+    omega (arith, turn-world (c .before .before .before .before .before .before .before .pre .1) (c .before .loop .inv) .room, size, c .before .before .before .before .before .before .before .good)
 
 strike-free-returns-4 : (t : ℕ) → strike-free-lts.Need-returns-4 (strike-free-calls t) (strike-free-at t) strike-free.Post strike-free-Inv-loop strike-free-μ-loop
-strike-free-returns-4 t c = filtered-at (sym (c .live-at .ensures)) (filtered-goal (c .before .before .loop .inv .done) (λ live swept. swept-end (c .before .loop-test .left) swept))
+strike-free-returns-4 t c = filtered-at (sym (c .live-at .ensures)) (turn-end (c .before .before .before .before .before .before .before .before .pre .1) (c .before .before .loop .inv) (c .before .loop-test .left))
 
 fix-same-length : (t : ℕ) → fix-lts.Need-same-length (fix-calls t) (fix-at t) fix.Post fix-Inv-loop fix-μ-loop
 fix-same-length t c = fix-returns t c .moved .within .len
