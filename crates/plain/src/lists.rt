@@ -1,18 +1,18 @@
 // Settling, word for word: for each type and end the rules of a stable list are asked anew, over all slots, until none of them strikes
 // anything or one is broken.
-use crate::arrays::CELLS;
-use crate::arrays::ENDS;
-use crate::arrays::Masks;
-use crate::arrays::ROUNDS;
-use crate::arrays::Table;
-use crate::arrays::alone;
-use crate::arrays::cell;
-use crate::arrays::entry;
-use crate::arrays::fixed;
-use crate::arrays::has;
-use crate::arrays::mask;
-use crate::arrays::plus;
-use crate::arrays::set_mask;
+use crate::ROUNDS;
+use arrays::CELLS;
+use arrays::ENDS;
+use arrays::Masks;
+use arrays::Table;
+use arrays::alone;
+use arrays::cell;
+use arrays::entry;
+use arrays::fixed;
+use arrays::has;
+use arrays::mask;
+use arrays::plus;
+use arrays::set_mask;
 
 // What asking the rules found.
 const STILL: u8 = 0;

@@ -1,20 +1,20 @@
 // The plain machine of sessions: masks M, a dead flag and a pile of saved masks, call by call, with the refusals 11 to 16. Each decision
 // settles the cut masks anew.
-use crate::arrays::MARKS;
-use crate::arrays::Masks;
-use crate::arrays::Pile;
-use crate::arrays::Table;
-use crate::arrays::alone;
-use crate::arrays::less;
-use crate::arrays::mask;
-use crate::arrays::narrow;
-use crate::arrays::ones;
-use crate::arrays::plus;
-use crate::arrays::save;
-use crate::arrays::saved;
-use crate::arrays::set_mask;
 use crate::lists::settle;
 use crate::walls::walls;
+use arrays::MARKS;
+use arrays::Masks;
+use arrays::Pile;
+use arrays::Table;
+use arrays::alone;
+use arrays::less;
+use arrays::mask;
+use arrays::narrow;
+use arrays::ones;
+use arrays::plus;
+use arrays::save;
+use arrays::saved;
+use arrays::set_mask;
 
 // A call, taken apart.
 pub struct Call {

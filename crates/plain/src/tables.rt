@@ -1,17 +1,17 @@
 // Closing, naively: the rules asked at each entry in turn, sweep after sweep, until a sweep changes nothing or an entry is crossed.
-use crate::arrays::CELLS;
-use crate::arrays::ENDS;
-use crate::arrays::ROUNDS;
-use crate::arrays::Rows;
-use crate::arrays::Table;
-use crate::arrays::cell;
-use crate::arrays::entry;
-use crate::arrays::field;
-use crate::arrays::greater;
-use crate::arrays::less;
-use crate::arrays::plus;
-use crate::arrays::set_entry;
-use crate::arrays::smaller;
+use crate::ROUNDS;
+use arrays::CELLS;
+use arrays::ENDS;
+use arrays::Rows;
+use arrays::Table;
+use arrays::cell;
+use arrays::entry;
+use arrays::field;
+use arrays::greater;
+use arrays::less;
+use arrays::plus;
+use arrays::set_entry;
+use arrays::smaller;
 
 // What asking the rules found.
 const STILL: u8 = 0;

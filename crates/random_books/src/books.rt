@@ -4,19 +4,19 @@ use crate::bytes::put16;
 use crate::bytes::put32;
 use crate::random::below;
 use crate::random::in_eight;
-use plain::Masks;
-use plain::Numbers;
-use plain::Rows;
-use plain::alone;
-use plain::entry;
-use plain::field;
-use plain::less;
-use plain::mask;
-use plain::plus;
-use plain::set_entry;
-use plain::set_mask;
-use plain::smaller;
-use plain::wide;
+use arrays::Masks;
+use arrays::Numbers;
+use arrays::Rows;
+use arrays::alone;
+use arrays::entry;
+use arrays::field;
+use arrays::less;
+use arrays::mask;
+use arrays::plus;
+use arrays::set_entry;
+use arrays::set_mask;
+use arrays::smaller;
+use arrays::wide;
 
 // A book's counts of slots, types and rows, and its number in the run.
 pub struct Case {

@@ -21,13 +21,13 @@ pub fn put8(bytes: &mut Bytes, p: usize, x: usize) {
 // Puts x, cut to 16 bits, at p.
 pub fn put16(bytes: &mut Bytes, p: usize, x: usize) {
     put8(bytes, p, x);
-    put8(bytes, plain::plus(p, 1), x / 256);
+    put8(bytes, arrays::plus(p, 1), x / 256);
 }
 
 // Puts x, cut to 32 bits, at p.
 pub fn put32(bytes: &mut Bytes, p: usize, x: usize) {
     put16(bytes, p, x);
-    put16(bytes, plain::plus(p, 2), x / 65536);
+    put16(bytes, arrays::plus(p, 2), x / 65536);
 }
 
 // The first `end` bytes; all where there are not so many.

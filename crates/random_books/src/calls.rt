@@ -1,13 +1,11 @@
 // Random call lists: all seven kinds, unknown kinds, slots and types within and out of range. Each 37th list is long and has more marks
 // than may be open.
 use crate::bytes::Bytes;
-use crate::bytes::byte;
 use crate::bytes::put8;
 use crate::bytes::put16;
 use crate::random::below;
 use crate::random::in_eight;
-use plain::Call;
-use plain::plus;
+use arrays::plus;
 
 // How many calls the book's list has.
 pub fn call_count(number: usize) -> usize {
@@ -71,21 +69,4 @@ fn make_slot(seed: &mut u64, n: usize) -> usize {
         return below(seed, 600);
     }
     below(seed, n)
-}
-
-// Call i of the list.
-pub fn call_at(calls: &Bytes, i: usize) -> Call {
-    let at = i % 512 * 4;
-    let low = number_of(byte(calls, at + 2));
-    let high = number_of(byte(calls, at + 3));
-    Call {
-        kind: byte(calls, at),
-        board_type: number_of(byte(calls, at + 1)),
-        slot: plus(low, high % 256 * 256),
-    }
-}
-
-// The same number as an index.
-fn number_of(x: u8) -> usize {
-    x as usize
 }

@@ -55,7 +55,7 @@ fn set(counts: &mut Counts, which: usize, x: usize) {
 }
 
 pub fn add(counts: &mut Counts, which: usize, x: usize) {
-    let sum = plain::plus(count(counts, which), x);
+    let sum = arrays::plus(count(counts, which), x);
     set(counts, which, sum);
 }
 

@@ -3,12 +3,12 @@ use crate::books::Case;
 use crate::counts::Counts;
 use crate::counts::Step;
 use crate::counts::same;
-use plain::Masks;
-use plain::Table;
-use plain::cell;
-use plain::entry;
-use plain::mask;
-use plain::wide;
+use arrays::Masks;
+use arrays::Table;
+use arrays::cell;
+use arrays::entry;
+use arrays::mask;
+use arrays::wide;
 
 // What is there before the engine writes: no bound, mask, or word of a call.
 pub const FILL16: u16 = 43981;

@@ -18,10 +18,10 @@ use crate::counts::UPPER_WALLS;
 use crate::counts::add;
 use crate::counts::add_if;
 use crate::counts::count;
+use arrays::less;
+use arrays::plus;
+use arrays::wide;
 use libc::STDOUT_FILENO;
-use plain::less;
-use plain::plus;
-use plain::wide;
 
 // Counts the book by what came of it: closing's answer and settling's.
 pub fn tell_book(closed: u32, settled: u32, counts: &mut Counts) {
@@ -36,7 +36,7 @@ pub fn tell_book(closed: u32, settled: u32, counts: &mut Counts) {
 }
 
 // Counts a call by its kind and its two words.
-pub fn tell(kind: u8, first: u32, second: u32, counts: &mut Counts) {
+pub fn tell_call(kind: u8, first: u32, second: u32, counts: &mut Counts) {
     match first {
         0 => {
             add(counts, LIVE_DECISIONS, 1);

@@ -1,4 +1,6 @@
-// Tables, lists of masks and the pile of saved masks as arrays of fixed length, and sums that stay within their range.
+// Tables, lists of masks and the pile of saved masks as arrays of fixed length, and sums that stay within their range: for the plain filter and the
+// random books of the tests. The contracts say nothing, so it is proved to be safe and to end, and no more. Nothing is refused: what lies outside an
+// array reads as 0, and a store there does nothing.
 
 // 256 numbers.
 pub type Numbers = [usize; 256];
@@ -17,8 +19,6 @@ pub const CELLS: usize = 256;
 pub const ENDS: usize = 32;
 // The most marks that may be open.
 pub const MARKS: usize = 256;
-// More rounds than a table of 8 types and 31 slots has values to lose, or a list of masks types: each round but the last takes one away.
-pub const ROUNDS: usize = 10_000;
 
 // Where a table has its entry for type v at end t; out of range where it has none.
 pub fn cell(v: usize, t: usize) -> usize {

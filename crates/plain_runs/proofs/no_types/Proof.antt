@@ -1,8 +1,8 @@
--- `random_books::plainly::no_types` is safe and ends. Its loop needs no invariant; the measure is the slots that are left. Assumes nothing.
+-- `plain_runs::no_types` is safe and ends. Its loop needs no invariant; the measure is the slots that are left. Assumes nothing.
 use Prim.Native.Nat.{_-_}
 use borrow.Author.Needs.{needs}
-use Rattle.random_books.proofs.plainly.no_types.Statement.{statement}
-use Rattle.random_books.proofs.plainly.no_types.Tie as tie
+use Rattle.plain_runs.proofs.no_types.Statement.{statement}
+use Rattle.plain_runs.proofs.no_types.Tie as tie
 
 abbrev Inv-loop : tie.InvT-loop
 Inv-loop masks₀ slot₀ masks slot = Unit {0}

@@ -1,8 +1,8 @@
--- `random_books::plainly::width` is safe and ends. Its loop needs no invariant; the measure is the entries that are left. Assumes nothing.
+-- `plain_runs::width` is safe and ends. Its loop needs no invariant; the measure is the entries that are left. Assumes nothing.
 use Prim.Native.Nat.{_-_}
 use borrow.Author.Needs.{needs}
-use Rattle.random_books.proofs.plainly.width.Statement.{statement}
-use Rattle.random_books.proofs.plainly.width.Tie as tie
+use Rattle.plain_runs.proofs.width.Statement.{statement}
+use Rattle.plain_runs.proofs.width.Tie as tie
 
 abbrev Inv-loop : tie.InvT-loop
 Inv-loop case lower upper sum₀ p₀ sum p = Unit {0}

@@ -1,8 +1,8 @@
--- `plain::arrays::ones` is safe and ends. Its loop needs no invariant; the measure is the slots that are left. Assumes nothing.
+-- `arrays::ones` is safe and ends. Its loop needs no invariant; the measure is the slots that are left. Assumes nothing.
 use Prim.Native.Nat.{_-_}
 use borrow.Author.Needs.{needs}
-use Rattle.plain.proofs.arrays.ones.Statement.{statement}
-use Rattle.plain.proofs.arrays.ones.Tie as tie
+use Rattle.arrays.proofs.ones.Statement.{statement}
+use Rattle.arrays.proofs.ones.Tie as tie
 
 abbrev Inv-loop : tie.InvT-loop
 Inv-loop n masks sum₀ slot₀ sum slot = Unit {0}

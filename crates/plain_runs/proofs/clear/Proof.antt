@@ -1,8 +1,8 @@
--- `random_books::plainly::clear` is safe and ends. Its loop needs no invariant; the measure is the entries that are left. Assumes nothing.
+-- `plain_runs::clear` is safe and ends. Its loop needs no invariant; the measure is the entries that are left. Assumes nothing.
 use Prim.Native.Nat.{_-_}
 use borrow.Author.Needs.{needs}
-use Rattle.random_books.proofs.plainly.clear.Statement.{statement}
-use Rattle.random_books.proofs.plainly.clear.Tie as tie
+use Rattle.plain_runs.proofs.clear.Statement.{statement}
+use Rattle.plain_runs.proofs.clear.Tie as tie
 
 abbrev Inv-loop : tie.InvT-loop
 Inv-loop table₀ p₀ table p = Unit {0}

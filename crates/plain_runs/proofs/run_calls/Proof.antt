@@ -1,9 +1,9 @@
--- `random_books::plainly::run_calls` is safe and ends. Its loop needs no invariant; the measure is the calls that are left. Assumes nothing.
+-- `plain_runs::run_calls` is safe and ends. Its loop needs no invariant; the measure is the calls that are left. Assumes nothing.
 use Prim.Native.Nat.{_-_}
 use native.Mathlib.Omega.{arith}
 use borrow.Author.Needs.{needs}
-use Rattle.random_books.proofs.plainly.run_calls.Statement.{statement}
-use Rattle.random_books.proofs.plainly.run_calls.Tie as tie
+use Rattle.plain_runs.proofs.run_calls.Statement.{statement}
+use Rattle.plain_runs.proofs.run_calls.Tie as tie
 
 abbrev Inv-loop : tie.InvT-loop
 Inv-loop opened calls count lower upper masks₀ pile₀ words counts₀ step session₀ i₀ masks pile counts session i = Unit {0}
@@ -23,8 +23,8 @@ make-call-requires c κs = search needs
 add-requires : tie.Need-add-requires Inv-loop μ-loop
 add-requires c κs = search needs
 
-tell-requires : tie.Need-tell-requires Inv-loop μ-loop
-tell-requires c κs = search needs
+tell-call-requires : tie.Need-tell-call-requires Inv-loop μ-loop
+tell-call-requires c κs = search needs
 
 word-at-requires : tie.Need-word-at-requires Inv-loop μ-loop
 word-at-requires c κs = search needs
@@ -66,7 +66,7 @@ run-calls-spec =
     call-at-requires
     make-call-requires
     add-requires
-    tell-requires
+    tell-call-requires
     word-at-requires
     wide-requires
     same-requires

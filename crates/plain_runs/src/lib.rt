@@ -1,30 +1,32 @@
-// A book through the plain filter, step by step. What is counted is what it says.
-use crate::books::Case;
-use crate::bytes::Bytes;
-use crate::calls::call_at;
-use crate::counts::BOUNDS_MOVED;
-use crate::counts::CALLS;
-use crate::counts::Counts;
-use crate::counts::SETTLED_STRUCK;
-use crate::counts::Step;
-use crate::counts::add;
-use crate::counts::same;
-use crate::found::Words;
-use crate::found::word_at;
-use crate::tell::tell;
-use plain::Masks;
-use plain::Pile;
-use plain::Rows;
+// A random book through the plain filter, step by step, and the words of its calls compared; what is counted is what the plain filter says: the part of
+// the test program randoms that stands on both. The contracts say nothing, so it is proved to be safe and to end, and no more. Nothing is refused.
+use arrays::Masks;
+use arrays::Pile;
+use arrays::Rows;
+use arrays::Table;
+use arrays::entry;
+use arrays::less;
+use arrays::ones;
+use arrays::plus;
+use arrays::set_entry;
+use arrays::set_mask;
+use arrays::wide;
+use plain::Call;
 use plain::Session;
-use plain::Table;
-use plain::entry;
-use plain::less;
 use plain::make_call;
-use plain::ones;
-use plain::plus;
-use plain::set_entry;
-use plain::set_mask;
-use plain::wide;
+use random_books::BOUNDS_MOVED;
+use random_books::Bytes;
+use random_books::CALLS;
+use random_books::Case;
+use random_books::Counts;
+use random_books::SETTLED_STRUCK;
+use random_books::Step;
+use random_books::Words;
+use random_books::add;
+use random_books::byte;
+use random_books::same;
+use random_books::tell_call;
+use random_books::word_at;
 
 // The closed table, left in lower and upper, 0 where the book is dead. Its answer.
 pub fn close_plainly(
@@ -126,8 +128,25 @@ pub fn run_calls(
         session.dead = told.dead;
         session.marks = told.marks;
         add(counts, CALLS, 1);
-        tell(call.kind, told.first, told.second, counts);
+        tell_call(call.kind, told.first, told.second, counts);
         same(counts, step, i, word_at(words, i, 0), wide(told.first));
         same(counts, step, i, word_at(words, i, 1), wide(told.second));
     }
+}
+
+// Call i of the list.
+fn call_at(calls: &Bytes, i: usize) -> Call {
+    let at = i % 512 * 4;
+    let low = number_of(byte(calls, at + 2));
+    let high = number_of(byte(calls, at + 3));
+    Call {
+        kind: byte(calls, at),
+        board_type: number_of(byte(calls, at + 1)),
+        slot: plus(low, high % 256 * 256),
+    }
+}
+
+// The same number as an index.
+fn number_of(x: u8) -> usize {
+    x as usize
 }
