@@ -17,9 +17,10 @@ use Rattle.segments_model.proofs.FallenLaws.{clashed, quiet-none, quiet-less, q
 use Rattle.segments_model.proofs.LatestLaws.{latest-end, latest-none}
 use Rattle.segments_model.proofs.LinksLaws.{next-after, gaps-first}
 use Rattle.segments_model.proofs.RaiseLaws.{reversal-none, reversal-less, reversal-join, reversal-spend}
+use Rattle.right_ends.specs.Before.{Before}
 use Rattle.segments.specs.declared.Hit.{Hit}
 use Rattle.segments.specs.declared.Hit.the-variants.{Lowered, Still, Joined, Clash, Reached}
-use Rattle.segments.specs.Fell.{Quiets, Answer, Fell, Before, Leads}
+use Rattle.segments.specs.Fell.{Quiets, Answer, Fell}
 
 -- ---- Fell
 

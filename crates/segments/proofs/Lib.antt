@@ -1,2 +1,1 @@
-pub mod BeforeLaws
 pub mod FellLaws

@@ -5,18 +5,15 @@
 --   Reverses n slot ..     the answer's tag and note take the fall back; or there was none, since the slot is before the spent corner
 --   Barred slot cells ..   at a Clash the cells stay; else the slot is not before the spent corner, which is the note where another is reached
 --   Fell n slot ..         the cells keep their number, the answer holds for each C and f that the cells hold, and it tells how the fall is taken back
---   Before n z slot ..     p is the last right end after z up to the slot, or z; as to z itself, only if the links pass no right end
---   Leads c w t r          r tells whether the cell c at w is a link to t
 -- Assumes nothing.
 use mathlib.Core.Path.{_≡_}
-use mathlib.Core.Bool.{Bool, true, false}
+use mathlib.Core.Bool.{Bool}
 use mathlib.Core.List.{List}
 use Prim.Native.Nat.{ℕ, _≤_, _<_}
 use lib.ListN.{length, getD}
 use Rattle.segments_model.specs.Fall.{Quieted, Clashed, ReachedAt}
-use Rattle.segments_model.specs.Links.{gaps, target, Linked, Held}
+use Rattle.segments_model.specs.Links.{Held}
 use Rattle.segments_model.specs.Raise.{endOf, Reversal}
-use Rattle.segments_model.specs.Search.{Latest}
 use Rattle.segments.specs.declared.Hit.{Hit}
 use Rattle.segments.specs.declared.Hit.the-variants.{Lowered, Still, Joined, Clash, Reached}
 
@@ -61,12 +58,3 @@ pub record Fell (n slot : ℕ) (cells cells′ : List ℕ) (r : Hit) : Type 0 wh
   pub answer : (C : ℕ → Bool) (f : ℕ → ℕ) → Held n C f cells → Answer n C f slot cells cells′ r
   pub reverses : Reverses n slot cells cells′ r
   pub barred : Barred slot cells cells′ r
-
-pub record Before (n z slot : ℕ) (cells : List ℕ) (p : ℕ) : Type 0 where
-  pub from : z ≤ p
-  pub found : z < p → Latest z slot (gaps cells) p
-  pub linked : Linked n cells → Latest z slot (gaps cells) p
-
-abbrev pub Leads : ℕ → ℕ → ℕ → Bool → Type 0
-Leads c w t true = (1024 ≤ c) × (target w c ≡ t)
-Leads c w t false = 1024 ≤ c → target w c ≡ t → ⊥

@@ -1,10 +1,10 @@
--- `segments::previous_end` meets its contract: the link after z leads to t (`before-link`), or it is what the search backwards finds.
+-- `right_ends::previous_end` meets its contract: the link after z leads to t (`before-link`), or it is what the search backwards finds.
 -- Assumes nothing.
 use native.Mathlib.Omega.{arith}
 use borrow.Author.Needs.{needs}
-use Rattle.segments.proofs.BeforeLaws.{leads-yes, before-latest, before-link}
-use Rattle.segments.proofs.previous_end.Statement.{statement}
-use Rattle.segments.proofs.previous_end.Tie as tie
+use Rattle.right_ends.proofs.BeforeLaws.{leads-yes, before-latest, before-link}
+use Rattle.right_ends.proofs.previous_end.Statement.{statement}
+use Rattle.right_ends.proofs.previous_end.Tie as tie
 
 add-leads : tie.Need-add-leads
 add-leads c = search needs

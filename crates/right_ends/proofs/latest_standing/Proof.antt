@@ -1,4 +1,4 @@
--- `segments::latest_standing` meets its contract. The invariant: p is at most the slot and not before z, and nothing stands between p and the slot.
+-- `right_ends::latest_standing` meets its contract. The invariant: p is at most the slot and not before z, and nothing stands between p and the slot.
 -- The measure is p. One more place passed: `gap-before`. Assumes nothing.
 use mathlib.Core.Path.{_≡_}
 use Prim.Native.Nat.{_+_, _-_, _≤_}
@@ -7,8 +7,8 @@ use Rattle.segments_model.specs.Links.{gaps}
 use Rattle.segments_model.specs.Search.{Gap}
 use Rattle.segments_model.proofs.LinksLaws.{gaps-end, gaps-link}
 use Rattle.segments_model.proofs.SearchLaws.{gap-before}
-use Rattle.segments.proofs.latest_standing.Statement.{statement}
-use Rattle.segments.proofs.latest_standing.Tie as tie
+use Rattle.right_ends.proofs.latest_standing.Statement.{statement}
+use Rattle.right_ends.proofs.latest_standing.Tie as tie
 
 abbrev Inv-loop : tie.InvT-loop
 Inv-loop cells z slot p₀ p = (z ≤ p) × (p ≤ slot) × Gap (gaps cells) (p + 1) (slot + 1)

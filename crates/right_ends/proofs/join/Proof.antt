@@ -1,9 +1,9 @@
--- `segments::join` meets its contract: the code's two stores. Assumes nothing.
+-- `right_ends::join` meets its contract: the code's two stores. Assumes nothing.
 use native.Mathlib.Omega.{arith}
 use lib.ListN.{getD, length-set}
 use borrow.Author.Needs.{needs}
-use Rattle.segments.proofs.join.Statement.{statement}
-use Rattle.segments.proofs.join.Tie as tie
+use Rattle.right_ends.proofs.join.Statement.{statement}
+use Rattle.right_ends.proofs.join.Tie as tie
 
 mul-cells : tie.Need-mul-cells
 mul-cells c = search needs

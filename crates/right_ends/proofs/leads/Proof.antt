@@ -1,11 +1,11 @@
--- `segments::leads` meets its contract: `leads-is`. Assumes nothing.
+-- `right_ends::leads` meets its contract: `leads-is`. Assumes nothing.
 use mathlib.Core.Path.{refl, sym}
 use Prim.Native.Nat.{_≤_}
 use native.Mathlib.Omega.{arith}
 use borrow.Author.Needs.{needs}
-use Rattle.segments.proofs.BeforeLaws.{leads-is}
-use Rattle.segments.proofs.leads.Statement.{statement}
-use Rattle.segments.proofs.leads.Tie as tie
+use Rattle.right_ends.proofs.BeforeLaws.{leads-is}
+use Rattle.right_ends.proofs.leads.Statement.{statement}
+use Rattle.right_ends.proofs.leads.Tie as tie
 
 mul-wide : tie.Need-mul-wide
 mul-wide c = search needs

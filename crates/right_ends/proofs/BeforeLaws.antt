@@ -1,4 +1,4 @@
--- The laws of `Before` and `Leads` of specs/Fell.antt: what the search backwards finds (`before-latest`), that nothing is before t where the link
+-- The laws of `Before` and `Leads` of specs/Before.antt: what the search backwards finds (`before-latest`), that nothing is before t where the link
 -- after z leads there (`before-link`), and the test for that (`leads-is`, `leads-yes`).
 -- No contract cites this file. Assumes nothing.
 use mathlib.Core.Path.{_≡_, sym, subst}
@@ -14,7 +14,7 @@ use Rattle.segments_model.specs.Links.{gaps, target, Linked}
 use Rattle.segments_model.specs.Search.{Latest}
 use Rattle.segments_model.proofs.LinksLaws.{gaps-link}
 use Rattle.segments_model.proofs.SearchLaws.{gap-before}
-use Rattle.segments.specs.Fell.{Before, Leads}
+use Rattle.right_ends.specs.Before.{Before, Leads}
 
 pub leads-is : (c w t : ℕ) → 1024 ≤ c → (b : Bool) → b ≡ eqb (w + (c - 1023)) t → Leads c w t b
 leads-is c w t link true is = let same : w + (c - 1023) ≡ t = eqb-true _ _ (sym is) in (link, omega arith)

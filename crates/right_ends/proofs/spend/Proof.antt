@@ -1,9 +1,9 @@
--- `segments::spend` meets its contract: the code's two stores. Assumes nothing.
+-- `right_ends::spend` meets its contract: the code's two stores. Assumes nothing.
 use native.Mathlib.Omega.{arith}
 use lib.ListN.{length-set}
 use borrow.Author.Needs.{needs}
-use Rattle.segments.proofs.spend.Statement.{statement}
-use Rattle.segments.proofs.spend.Tie as tie
+use Rattle.right_ends.proofs.spend.Statement.{statement}
+use Rattle.right_ends.proofs.spend.Tie as tie
 
 mul-cells : tie.Need-mul-cells
 mul-cells c = search needs
