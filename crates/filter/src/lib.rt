@@ -1,6 +1,6 @@
 // The filter: `fix` and `strike` call each other until everything before each corner that loses its last slack is settled, or a dead end is found.
 // The calls of the cycle return an outcome as the number of `outcomes`. Nothing is refused here. The contracts cite `specs/Filtered.antt` and the
-// definitions of filter_model; one strike is a call of strikes.
+// definitions of filter_model; one strike is a call of strikes or thinning.
 use outcomes::dead_at;
 use outcomes::height;
 use outcomes::is_dead;
@@ -34,7 +34,7 @@ pub fn fix(
         let w = domains::lowest(rest);
         rest = domains::less(rest, w);
         let left = domains::with(rest, v);
-        let low = strikes::thin(masks, cells, trail, n, k, h, slot, w, left);
+        let low = thinning::thin(masks, cells, trail, n, k, h, slot, w, left);
         if low.clash {
             return dead_at(h);
         }
@@ -200,7 +200,7 @@ pub fn strike_free(
             continue;
         }
         let left = slots::without_value(masks, slot, v);
-        let low = strikes::thin(masks, cells, trail, n, k, h, slot, v, left);
+        let low = thinning::thin(masks, cells, trail, n, k, h, slot, v, left);
         if low.clash {
             return dead_at(h);
         }

@@ -8,7 +8,7 @@ ghost use lib.ListN.{getD};
 ghost use Rattle.domains.specs.Mask.{clearBit};
 ghost use Rattle.domains.specs.Masks.{HasAt};
 ghost use Rattle.filter_model.specs.State.{Ready};
-ghost use Rattle.strikes.specs.Answers.{Removal·Answer, Thinned};
+ghost use Rattle.strikes.specs.Answers.{Removal·Answer};
 
 // One whole strike: not made, since no stable list allows it; or made, with the slots from which on and before which the struck value must be
 // settled, those for the slot's only value, and that value.
@@ -40,47 +40,20 @@ pub fn strike_one(
         return Removal::Contradiction;
     }
     if !domains::is_single(m) {
-        descents::store(masks, slot, m);
+        state_stores::store(masks, slot, m);
         let low = descents::fall_row(cells, v, n, slot);
-        descents::push(trail, n, top, slot, v, low.tag, low.note);
+        state_stores::push(trail, n, top, slot, v, low.tag, low.note);
         return Removal::Made(low.note, low.reach, 0, 0, 0);
     }
     let w = domains::single_value(m);
     if slot < descents::spent(cells, k + w, n) {
         return Removal::Contradiction;
     }
-    descents::store(masks, slot, m);
+    state_stores::store(masks, slot, m);
     let low = descents::fall_row(cells, v, n, slot);
-    descents::push(trail, n, top, slot, v, low.tag + 4, low.note);
+    state_stores::push(trail, n, top, slot, v, low.tag + 4, low.note);
     let high = descents::fall_row(cells, k + w, n, slot);
-    descents::close_slot(cells, n, k, slot);
-    descents::note_fixed(trail, n, slot, high.tag, high.note);
+    state_stores::close_slot(cells, n, k, slot);
+    state_stores::note_fixed(trail, n, slot, high.tag, high.note);
     Removal::Made(low.note, low.reach, high.note, high.reach, w)
-}
-
-// Strikes v from a slot that has it and at least two others, so that none gets to be the only one; or finds that no stable list allows it, and
-// changes nothing. `left` is the slot's mask without v.
-pub fn thin(
-    masks: &mut [u32],
-    cells: &mut [u16],
-    trail: &mut [u8],
-    n: usize,
-    k: u32,
-    top: usize,
-    slot: usize,
-    v: u32,
-    left: u32,
-) -> descents::Descent
-    requires { ⌜ Ready (now masks) (now cells) (now trail) n k top slot v × HasAt (now masks) slot v
-        × (2 < ones (getD (now masks) slot 0)) × (left ≡ clearBit (getD (now masks) slot 0) v) ⌝ }
-    ensures { λ r. ⌜ Thinned n k (now (masks .entry)) (now (cells .entry)) (now (trail .entry)) top
-        (now (masks .exit)) (now (cells .exit)) (now (trail .exit)) slot v (r .note) (r .reach) (r .clash) ⌝ }
-{
-    let fell = descents::fall_row(cells, v, n, slot);
-    if fell.clash {
-        return fell;
-    }
-    descents::push(trail, n, top, slot, v, fell.tag, fell.note);
-    descents::store(masks, slot, left);
-    fell
 }

@@ -1,13 +1,13 @@
 // Undo: takes calls of the filter back. Each strike that the trail has from a height on is taken back, the latest first: its falls by their
 // tags and notes, its value into the masks, and a slot that it left one value into the set of open slots. Nothing is refused here. The contracts cite `specs/Undone.antt` and filter_model's `specs/Trail.antt`.
+use state_stores::lift_cell;
+use state_stores::open_slot;
+use state_stores::put_in;
 ghost use mathlib.Core.Path.{_≡_};
 ghost use Prim.Native.Nat.{_+_, _*_, _<_, _≤_};
 ghost use lib.ListN.{length, getD};
-ghost use Rattle.settling_model.specs.Settled.{LacksAt};
 ghost use Rattle.segments_model.specs.Part.{over};
-ghost use Rattle.segments_model.specs.Raise.{lifted, risen};
-ghost use Rattle.filter_model.specs.Open.{wordAt, openBit, openSlot};
-ghost use Rattle.filter_model.specs.Trail.{putIn};
+ghost use Rattle.segments_model.specs.Raise.{risen};
 ghost use Rattle.undoing.specs.Undone.{RowUndoing, UpperUndoing, UpperUndone, StrikeUndoing, StrikeUndone, Undoable, Undone};
 
 // Takes back what was struck while the trail grew from height `from` to height `to`, in the masks and in the cells.
@@ -52,14 +52,6 @@ fn take_back(masks: &mut [u32], cells: &mut [u16], trail: &[u8], n: usize, k: u3
     put_in(masks, slot, v);
 }
 
-// The gap of the right end at this place of the cells is one more.
-fn lift_cell(cells: &mut [u16], at: usize)
-    requires { ⌜ (at < length (now cells)) × (getD (now cells) at 0 < 1024) ⌝ }
-    ensures { λ _. ⌜ now (cells .exit) ≡ lifted at (now (cells .entry)) ⌝ }
-{
-    cells[at] = cells[at] + 1;
-}
-
 // The slot being fixed, puts it back into the set of open slots, and takes the fall of its value's upper row back.
 fn raise_fixed(masks: &[u32], cells: &mut [u16], trail: &[u8], n: usize, k: u32, slot: usize)
     requires { ⌜ UpperUndoing (now masks) (now cells) (now trail) n k slot ⌝ }
@@ -77,15 +69,6 @@ fn raise_fixed(masks: &[u32], cells: &mut [u16], trail: &[u8], n: usize, k: u32,
     );
 }
 
-// Puts the slot, which is not in it, into the set of open slots.
-fn open_slot(cells: &mut [u16], n: usize, k: u32, slot: usize)
-    requires { ⌜ (wordAt n k slot < length (now cells)) × (n ≤ 256) × (k ≤ 32) × (openBit n k (now cells) slot ≡ 0) ⌝ }
-    ensures { λ _. ⌜ now (cells .exit) ≡ openSlot n k slot (now (cells .entry)) ⌝ }
-{
-    let at = (k + k) as usize * (n + 2) + slot / 16;
-    cells[at] = domains::with(bits_of(cells[at]), (slot % 16) as u32) as u16;
-}
-
 // Takes the fall of a row after the slot back, by its tag and its note.
 fn raise_row(cells: &mut [u16], row: u32, n: usize, slot: usize, tag: usize, note: usize)
     requires { ⌜ RowUndoing (now cells) row n slot tag note ⌝ }
@@ -94,22 +77,8 @@ fn raise_row(cells: &mut [u16], row: u32, n: usize, slot: usize, tag: usize, not
     raising::raise_in(cells, row as usize * (n + 2), n, slot, tag, note);
 }
 
-// Puts value v into the slot, where it is not.
-fn put_in(masks: &mut [u32], slot: usize, v: u32)
-    requires { ⌜ (slot < length (now masks)) × (v < 32) × LacksAt (now masks) slot v ⌝ }
-    ensures { λ _. ⌜ now (masks .exit) ≡ putIn (now (masks .entry)) slot v ⌝ }
-{
-    masks[slot] = domains::with(masks[slot], v);
-}
-
 fn wide(x: u8) -> usize
     ensures { λ r. ⌜ r ≡ x ⌝ }
 {
     x as usize
-}
-
-fn bits_of(x: u16) -> u32
-    ensures { λ r. ⌜ (r ≡ x) × (r < 65536) ⌝ }
-{
-    x as u32
 }

@@ -16,8 +16,9 @@ use Rattle.domains.specs.Masks.{HasAt, FixedAt, total}
 use Rattle.filter_model.specs.Cuts.{FixCut}
 use Rattle.filter_model.proofs.StateLaws.{world-moved, ready-slot, ready-value, ready-room}
 use Rattle.slots.specs.Values.{OtherValues}
-use Rattle.strikes.proofs.AnswerLaws.{answer-contradicted, answer-removed, thinned-clash, thinned-made}
+use Rattle.strikes.proofs.AnswerLaws.{answer-contradicted, answer-removed}
 use Rattle.strikes.proofs.LeftLaws.{removed-left}
+use Rattle.thinning.proofs.ThinnedLaws.{thinned-clash, thinned-made}
 use Rattle.slots.proofs.FreeLaws.{free-no, free-yes}
 use Rattle.slots.proofs.OthersLaws.{others-few, others-some, others-are, others-wide, less-lacks, less-with, others-less}
 use Rattle.filter.specs.Filtered.{Filtered}
@@ -60,7 +61,7 @@ use Rattle.slots.proofs.is_wide.Reads as is-wide-reads
 use Rattle.slots.proofs.open_block.Reads as open-block-reads
 use Rattle.slots.proofs.other_values.Reads as other-values-reads
 use Rattle.strikes.proofs.strike_one.Reads as strike-one-reads
-use Rattle.strikes.proofs.thin.Reads as thin-reads
+use Rattle.thinning.proofs.thin.Reads as thin-reads
 use Rattle.slots.proofs.without_value.Reads as without-value-reads
 use Rattle.filter.proofs.+fix+fix_free+follow+strike+strike_free.{statement}
 use Rattle.filter.proofs.+fix+fix_free+follow+strike+strike_free.Tie.{close}

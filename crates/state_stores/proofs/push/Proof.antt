@@ -1,10 +1,10 @@
--- `descents::push` meets its contract: the code's three stores. Assumes nothing.
+-- `state_stores::push` meets its contract: the code's three stores. Assumes nothing.
 use Prim.Native.Nat.{_+_, _*_}
 use native.Mathlib.Omega.{arith}
 use lib.ListN.{length-set}
 use borrow.Author.Needs.{needs}
-use Rattle.descents.proofs.push.Statement.{statement}
-use Rattle.descents.proofs.push.Tie as tie
+use Rattle.state_stores.proofs.push.Statement.{statement}
+use Rattle.state_stores.proofs.push.Tie as tie
 
 mul-p : tie.Need-mul-p
 mul-p c = search needs

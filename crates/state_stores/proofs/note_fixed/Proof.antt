@@ -1,9 +1,9 @@
--- `descents::note_fixed` meets its contract: the code's two stores. Assumes nothing.
+-- `state_stores::note_fixed` meets its contract: the code's two stores. Assumes nothing.
 use native.Mathlib.Omega.{arith}
 use lib.ListN.{length-set}
 use borrow.Author.Needs.{needs}
-use Rattle.descents.proofs.note_fixed.Statement.{statement}
-use Rattle.descents.proofs.note_fixed.Tie as tie
+use Rattle.state_stores.proofs.note_fixed.Statement.{statement}
+use Rattle.state_stores.proofs.note_fixed.Tie as tie
 
 cast-trail : tie.Need-cast-trail
 cast-trail c = search needs

@@ -1,14 +1,14 @@
--- `descents::close_slot` meets its contract: what `domains::less` leaves of the slot's word is stored. Assumes nothing.
+-- `state_stores::open_slot` meets its contract: the sum that it stores is that of `domains::with`, and it fits a word (`put-lt`). Assumes nothing.
 use mathlib.Core.Path.{ap, _∙_}
-use Prim.Native.Nat.{ℕ, _%_}
+use Prim.Native.Nat.{ℕ, _+_, _%_, _^_}
 use native.Mathlib.Omega.{arith}
 use lib.ListN.{set}
-use Rattle.domains.specs.Mask.{testBit, clearBit}
-use Rattle.domains.proofs.MaskLaws.{clearBit-le}
+use Rattle.domains.specs.Mask.{testBit}
+use Rattle.domains.proofs.MaskLaws.{put-lt}
 use Rattle.filter_model.specs.Open.{wordAt}
 use borrow.Author.Needs.{needs}
-use Rattle.descents.proofs.close_slot.Statement.{statement}
-use Rattle.descents.proofs.close_slot.Tie as tie
+use Rattle.state_stores.proofs.open_slot.Statement.{statement}
+use Rattle.state_stores.proofs.open_slot.Tie as tie
 
 add-at : tie.Need-add-at
 add-at c = search needs
@@ -34,16 +34,19 @@ slice-read-bits-of c = search needs
 bits-of-requires : tie.Need-bits-of-requires
 bits-of-requires c κs = search needs
 
-cast-less : tie.Need-cast-less
-cast-less c = search needs
+cast-with : tie.Need-cast-with
+cast-with c = search needs
 
-less-requires : tie.Need-less-requires
-less-requires c κs =
+with-requires : tie.Need-with-requires
+with-requires c κs =
     (omega arith, ap (λ (m : ℕ). testBit m (c .before .before .before .args .slot % 16)) (c .bits-of .ensures .0) ∙ c .before .before .before .pre .3)
 
 cast-cells : tie.Need-cast-cells
 cast-cells c =
-    omega (arith, c .less .ensures, clearBit-le (c .before .bits-of .result) (c .before .before .before .before .args .slot % 16), c .before .bits-of .ensures .1)
+    let slot = c .before .before .before .before .args .slot in
+    let bits-of = c .before .bits-of in
+    let lacks = ap (λ (m : ℕ). testBit m (slot % 16)) (bits-of .ensures .0) ∙ c .before .before .before .before .pre .3 in
+    omega (arith, c .with .ensures, put-lt 16 (bits-of .result) (slot % 16) (omega arith) (bits-of .ensures .1) lacks)
 
 mul-cells : tie.Need-mul-cells
 mul-cells c = search needs
@@ -56,11 +59,12 @@ same-length c = search needs
 
 returns : tie.Need-returns
 returns c =
-    let cells = c .before .before .before .before .args .cells .now in
-    ap (λ (m : ℕ). set cells (wordAt (c .before .before .before .before .args .n) (c .before .before .before .before .args .k) (c .before .before .before .before .args .slot)) m) (c .less .ensures ∙ ap (λ (m : ℕ). clearBit m (c .before .before .before .before .args .slot % 16)) (c .before .bits-of .ensures .0))
+    let args = c .before .before .before .before .args in
+    ap (λ (m : ℕ). set (args .cells .now) (wordAt (args .n) (args .k) (args .slot)) m)
+    (c .with .ensures ∙ ap (λ (m : ℕ). m + 2 ^ (args .slot % 16)) (c .before .bits-of .ensures .0))
 
-pub close-slot-spec : {M : Type 1} → statement M
-close-slot-spec =
+pub open-slot-spec : {M : Type 1} → statement M
+open-slot-spec =
     tie.close
     (tie.spec
     add-at
@@ -71,8 +75,8 @@ close-slot-spec =
     mul-bits-of
     slice-read-bits-of
     bits-of-requires
-    cast-less
-    less-requires
+    cast-with
+    with-requires
     cast-cells
     mul-cells
     slice-write-cells

@@ -1,11 +1,11 @@
--- `strikes::thin` meets its contract: a law of ThinLaws for each of its returns, and one for the note. Assumes nothing.
+-- `thinning::thin` meets its contract: a law of ThinLaws for each of its returns, and one for the note. Assumes nothing.
 use mathlib.Core.Path.{refl}
 use native.Mathlib.Omega.{arith}
 use borrow.Author.Needs.{needs}
 use Rattle.filter_model.proofs.StateLaws.{world-row, ready-slot, ready-room, ready-byte, ready-value}
-use Rattle.strikes.proofs.ThinLaws.{thin-barred, thin-made, thin-note, thin-tag}
-use Rattle.strikes.proofs.thin.Statement.{statement}
-use Rattle.strikes.proofs.thin.Tie as tie
+use Rattle.thinning.proofs.ThinLaws.{thin-barred, thin-made, thin-note, thin-tag}
+use Rattle.thinning.proofs.thin.Statement.{statement}
+use Rattle.thinning.proofs.thin.Tie as tie
 
 fall-row-requires : tie.Need-fall-row-requires
 fall-row-requires c κs =

@@ -1,10 +1,10 @@
--- `undoing::put_in` meets its contract: the sum that it stores is that of `domains::with`. Assumes nothing.
+-- `state_stores::put_in` meets its contract: the sum that it stores is that of `domains::with`. Assumes nothing.
 use mathlib.Core.Path.{ap}
 use Prim.Native.Nat.{ℕ}
 use borrow.Author.Needs.{needs}
 use lib.ListN.{set}
-use Rattle.undoing.proofs.put_in.Statement.{statement}
-use Rattle.undoing.proofs.put_in.Tie as tie
+use Rattle.state_stores.proofs.put_in.Statement.{statement}
+use Rattle.state_stores.proofs.put_in.Tie as tie
 
 mul-with : tie.Need-mul-with
 mul-with c = search needs

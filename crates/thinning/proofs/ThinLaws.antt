@@ -18,7 +18,7 @@ use Rattle.filter_model.proofs.ContradictionLaws.{contradicted-low}
 use Rattle.filter_model.proofs.RemovalLaws.{low-note, low-tag, removed-plain}
 use Rattle.descents.specs.Told.{Told}
 use Rattle.descents.proofs.ToldLaws.{told-clash, told-free}
-use Rattle.strikes.specs.Answers.{Thinned}
+use Rattle.thinning.specs.Thinned.{Thinned}
 
 -- ---- a mask of more than two values, one of them taken out
 module _ (m v : ℕ) (wide : 2 < ones m) where
