@@ -1,9 +1,9 @@
 // Closing a table of bounds in place (document 01, 'Closing'): the two slices hold lowers and uppers, value by value, and are swept
 // until a sweep changes nothing or finds a crossed entry. No other array is used. The contracts cite specs/Answer.antt, `Fits` of columns'
 // specs/Answer.antt and the model `closing` of closing_model's specs/Closing.antt.
-use columns::Sweep;
+use column_rules::Sweep;
 use columns::columns;
-use lines::crosses;
+use line_tests::crosses;
 use lines::line;
 use stores::crossed;
 ghost use mathlib.Core.Path.{_≡_};
@@ -11,7 +11,7 @@ ghost use Prim.Native.Nat.{_<_, _≤_};
 ghost use lib.ListN.{length, take, drop};
 ghost use Rattle.closing_model.specs.Table.{size};
 ghost use Rattle.closing_model.specs.Closing.{closing};
-ghost use Rattle.columns.specs.Answer.{Fits};
+ghost use Rattle.column_rules.specs.Answer.{Fits};
 ghost use Rattle.bounds.specs.Answer.{answered};
 
 // Closes the table in place: true, and the loosest closed table within it stands in the slices, or false where none lies within (document

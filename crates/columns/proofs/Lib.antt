@@ -1,1 +1,1 @@
-pub mod AnswerLaws
+mod ColumnsLaws

@@ -16,8 +16,8 @@ use Rattle.closing_model.proofs.PlaceLaws.{line-below}
 use Rattle.closing_model.proofs.RanLaws.{or-when, or-else}
 use Rattle.closing_model.proofs.SweepLaws.{Uncrossed, LinesInv, SweepsInv, lines-start, lines-turn, sweeps-start, sweeps-turn, sweep-ran, sweeps-loosest, sweeps-crossed, sweeps-none, uncrossed-more}
 use Rattle.closing_model.proofs.ClosingLaws.{loosest-closing, none-closing}
-use Rattle.lines.proofs.CrossLaws.{cross-none}
-use Rattle.columns.proofs.AnswerLaws.{outcome-same, outcome-changed, outcome-crossed}
+use Rattle.line_tests.proofs.CrossLaws.{cross-none}
+use Rattle.column_rules.proofs.AnswerLaws.{outcome-same, outcome-changed, outcome-crossed}
 use Rattle.bounds.proofs.close_table.Statement.{statement}
 use Rattle.bounds.proofs.close_table.Tie as tie
 

@@ -8,7 +8,8 @@ use borrow.Author.Needs.{needs}
 use Rattle.closing_model.specs.Table.{size}
 use Rattle.closing_model.specs.Sweep.{Columns, Ran}
 use Rattle.closing_model.proofs.RanLaws.{ran-none, or-when, or-else}
-use Rattle.columns.proofs.AnswerLaws.{outcome-same, outcome-changed, outcome-crossed, ran-empty, columns-more}
+use Rattle.column_rules.proofs.AnswerLaws.{outcome-same, outcome-changed, outcome-crossed, ran-empty}
+use Rattle.columns.proofs.ColumnsLaws.{columns-more}
 use Rattle.columns.proofs.columns.Statement.{statement}
 use Rattle.columns.proofs.columns.Tie as tie
 

@@ -1,7 +1,7 @@
 -- `columns::some_columns` meets its contract: by `band-between` where `band` did its work, else by what `each_column` promises. Assumes nothing.
 use native.Mathlib.Omega.{arith}
 use Rattle.bands.proofs.BandLaws.{answer-same, answer-changed, answer-unfit}
-use Rattle.columns.proofs.AnswerLaws.{band-between}
+use Rattle.columns.proofs.ColumnsLaws.{band-between}
 use borrow.Author.Needs.{needs}
 use Rattle.columns.proofs.some_columns.Statement.{statement}
 use Rattle.columns.proofs.some_columns.Tie as tie

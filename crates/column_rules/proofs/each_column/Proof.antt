@@ -1,4 +1,4 @@
--- `columns::each_column` meets its contract. The invariant of its loop: t lies between `from` and `end`, and the run so far kept the rules across the
+-- `column_rules::each_column` meets its contract. The invariant of its loop: t lies between `from` and `end`, and the run so far kept the rules across the
 -- values, which hold at the prefixes below t where nothing was stored. The measure is what is left up to `end`. `between-turn` is the turn.
 -- Assumes nothing.
 use mathlib.Core.Path.{_≡_, refl, _∙_}
@@ -9,10 +9,10 @@ use borrow.Author.Needs.{needs}
 use Rattle.closing_model.specs.Table.{size}
 use Rattle.closing_model.specs.Sweep.{Ran}
 use Rattle.closing_model.proofs.RanLaws.{ran-none, or-when, or-else}
-use Rattle.columns.specs.Answer.{Between}
-use Rattle.columns.proofs.AnswerLaws.{outcome-same, outcome-changed, outcome-crossed, ran-empty, between-turn}
-use Rattle.columns.proofs.each_column.Statement.{statement}
-use Rattle.columns.proofs.each_column.Tie as tie
+use Rattle.column_rules.specs.Answer.{Between}
+use Rattle.column_rules.proofs.AnswerLaws.{outcome-same, outcome-changed, outcome-crossed, ran-empty, between-turn}
+use Rattle.column_rules.proofs.each_column.Statement.{statement}
+use Rattle.column_rules.proofs.each_column.Tie as tie
 
 abbrev Inv-loop : tie.InvT-loop
 Inv-loop lowers₀ uppers₀ n k from end changed₀ t₀ lowers uppers changed t =

@@ -1,10 +1,10 @@
--- `lines::keeps` meets its contract: a line keeps its rules where both of its bounds are stairs. Assumes nothing.
+-- `line_tests::keeps` meets its contract: a line keeps its rules where both of its bounds are stairs. Assumes nothing.
 use borrow.Author.Needs.{needs}
 use Rattle.closing_model.specs.Table.{view}
 use Rattle.closing_model.proofs.RanLaws.{decided-true, decided-false}
 use Rattle.closing_model.proofs.LineLaws.{line-decided, line-broken}
-use Rattle.lines.proofs.keeps.Statement.{statement}
-use Rattle.lines.proofs.keeps.Tie as tie
+use Rattle.line_tests.proofs.keeps.Statement.{statement}
+use Rattle.line_tests.proofs.keeps.Tie as tie
 
 stairs-requires : tie.Need-stairs-requires
 stairs-requires c κs = search needs

@@ -11,9 +11,9 @@ use Prim.Native.Nat.{ℕ, _*_, _<_, _≤_}
 use lib.ListN.{length}
 use Rattle.closing_model.specs.Table.{Table, view, size, Within}
 use Rattle.closing_model.specs.Sweep.{widest, SumsAre, Across, Did}
-use Rattle.columns.specs.declared.Sums.{Sums}
-use Rattle.columns.specs.declared.Sweep.{Sweep}
-use Rattle.columns.specs.declared.Sweep.the-variants.{Same, Changed, Crossed}
+use Rattle.column_rules.specs.declared.Sums.{Sums}
+use Rattle.column_rules.specs.declared.Sweep.{Sweep}
+use Rattle.column_rules.specs.declared.Sweep.the-variants.{Same, Changed, Crossed}
 
 -- prefix lengths are entries, of 16 bits, and as many values have a sum of entries that fits
 pub record Fits (n k : ℕ) (L U : List ℕ) : Type 0 where

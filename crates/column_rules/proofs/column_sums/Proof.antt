@@ -1,12 +1,12 @@
--- `columns::column_sums` meets its contract. The invariant of its loop, `SumsInv`: p is the place of value v, and the sums and the gap are
+-- `column_rules::column_sums` meets its contract. The invariant of its loop, `SumsInv`: p is the place of value v, and the sums and the gap are
 -- those of the first v values. The measure is k less v. `sums-more` is the turn. Assumes nothing.
 use Prim.Native.Nat.{_-_}
 use native.Mathlib.Omega.{arith}
 use Rattle.closing_model.specs.Table.{view}
 use Rattle.closing_model.proofs.PlaceLaws.{place-below}
-use Rattle.columns.proofs.AnswerLaws.{SumsInv, sums-start, sums-more, sums-done}
-use Rattle.columns.proofs.column_sums.Statement.{statement}
-use Rattle.columns.proofs.column_sums.Tie as tie
+use Rattle.column_rules.proofs.AnswerLaws.{SumsInv, sums-start, sums-more, sums-done}
+use Rattle.column_rules.proofs.column_sums.Statement.{statement}
+use Rattle.column_rules.proofs.column_sums.Tie as tie
 
 abbrev Inv-loop : tie.InvT-loop
 Inv-loop lowers uppers n k t sl₀ su₀ gap₀ v₀ p₀ sl su gap v p =

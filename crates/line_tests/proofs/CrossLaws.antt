@@ -11,7 +11,7 @@ use borrow.Author.Count.{below-more}
 use borrow.Author.Tests.{lt-ltb, le-ltb}
 use lib.Dec.{ltb}
 use Rattle.closing_model.specs.Table.{Table}
-use Rattle.lines.specs.Cross.{CrossedIn, CrossAnswer}
+use Rattle.line_tests.specs.Cross.{CrossedIn, CrossAnswer}
 
 -- ---- CrossAnswer
 -- the invariant of the loop over the prefixes: gap is what the uppers of the first t lack to their lowers

@@ -1,11 +1,11 @@
--- `lines::crosses` meets its contract. The invariant of its loop, `CrossInv`: gap bounds what the uppers of the first t prefixes lack to
+-- `line_tests::crosses` meets its contract. The invariant of its loop, `CrossInv`: gap bounds what the uppers of the first t prefixes lack to
 -- their lowers, and is 0 unless an entry is crossed. The measure is n + 1 less t. `cross-more` is the turn. Assumes nothing.
 use Prim.Native.Nat.{_+_, _-_}
 use native.Mathlib.Omega.{arith}
 use Rattle.closing_model.specs.Table.{view}
-use Rattle.lines.proofs.CrossLaws.{CrossInv, cross-start, cross-more, cross-done}
-use Rattle.lines.proofs.crosses.Statement.{statement}
-use Rattle.lines.proofs.crosses.Tie as tie
+use Rattle.line_tests.proofs.CrossLaws.{CrossInv, cross-start, cross-more, cross-done}
+use Rattle.line_tests.proofs.crosses.Statement.{statement}
+use Rattle.line_tests.proofs.crosses.Tie as tie
 
 abbrev Inv-loop : tie.InvT-loop
 Inv-loop lowers uppers base n gap₀ t₀ gap t = CrossInv base n gap t (view lowers uppers)

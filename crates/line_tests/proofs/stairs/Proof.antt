@@ -1,11 +1,11 @@
--- `lines::stairs` meets its contract. The invariant of its loop, `StairsInv`: rise and fall bound the first t pairs, and are those of
+-- `line_tests::stairs` meets its contract. The invariant of its loop, `StairsInv`: rise and fall bound the first t pairs, and are those of
 -- stairs where these are stairs. The measure is n less t. `stairs-more` is the turn. Assumes nothing.
 use Prim.Native.Nat.{_-_}
 use native.Mathlib.Omega.{arith}
 use lib.ListN.{getD}
 use Rattle.closing_model.proofs.LineLaws.{StairsInv, stairs-start, stairs-more, stairs-done, stairs-steep, stairs-fall}
-use Rattle.lines.proofs.stairs.Statement.{statement}
-use Rattle.lines.proofs.stairs.Tie as tie
+use Rattle.line_tests.proofs.stairs.Statement.{statement}
+use Rattle.line_tests.proofs.stairs.Tie as tie
 
 abbrev Inv-loop : tie.InvT-loop
 Inv-loop s base n rise₀ fall₀ t₀ rise fall t =

@@ -1,4 +1,4 @@
--- `columns::narrow_column` meets its contract. The invariant of its loop, `AcrossInv`: p is the place of value v, the sums are those of the
+-- `column_rules::narrow_column` meets its contract. The invariant of its loop, `AcrossInv`: p is the place of value v, the sums are those of the
 -- table at the start, the lowers from p on stand as at the start, and the rules hold at the first v values where nothing was stored. The
 -- measure is k less v. `across-more` is the turn; `across-none` answers a sum of the others' lowers above t. Assumes nothing.
 use mathlib.Core.Logic.{⊎-elim}
@@ -7,8 +7,8 @@ use native.Mathlib.Omega.{arith}
 use Rattle.closing_model.proofs.PlaceLaws.{place-below}
 use Rattle.closing_model.proofs.RanLaws.{or-when, or-else}
 use Rattle.closing_model.proofs.AcrossLaws.{AcrossInv, across-start, across-none, across-more, across-done}
-use Rattle.columns.proofs.narrow_column.Statement.{statement}
-use Rattle.columns.proofs.narrow_column.Tie as tie
+use Rattle.column_rules.proofs.narrow_column.Statement.{statement}
+use Rattle.column_rules.proofs.narrow_column.Tie as tie
 
 abbrev Inv-loop : tie.InvT-loop
 Inv-loop lowers₀ uppers₀ n k t su sl changed₀ v₀ p₀ lowers uppers changed v p =

@@ -1,23 +1,22 @@
 -- The laws of `specs/Answer.antt`. No contract cites this file. `SumsInv`: the invariant of a loop that sums a column, `sums-start`,
 -- `sums-more` and `sums-done` its start, turn and end; `outcome-same`, `outcome-changed`, `outcome-crossed`: what an arm of a match on the
--- answer knows; `between-turn`, `columns-more`, `band-between`: the rules at more prefixes; `ran-empty`: none are left.
+-- answer knows; `between-turn`: the rules at one prefix more; `ran-empty`: none are left.
 -- Assumes nothing.
 use mathlib.Core.Path.{_≡_, sym, subst}
 use mathlib.Core.Bool.{Bool, true, false, _||_}
 use mathlib.Core.List.{List}
 use mathlib.Core.Logic.{dite}
 use Prim.Native.Nat.{ℕ, _+_, _-_, _*_, _≤_, _<_, max}
-use native.Mathlib.Decide.{decLt, ℕ-discrete}
+use native.Mathlib.Decide.{ℕ-discrete}
 use native.Mathlib.Nat.{le-refl}
 use native.Mathlib.Omega.{arith}
 use Rattle.closing_model.specs.Table.{Table, view, size, place, Within}
-use Rattle.closing_model.specs.Sweep.{columnSum, widest, Across, Columns, Ran, Did}
+use Rattle.closing_model.specs.Sweep.{columnSum, widest, Across, Ran, Did}
 use Rattle.closing_model.proofs.SumLaws.{column-sum-none, column-sum-more, widest-none, widest-more}
-use Rattle.closing_model.proofs.RanLaws.{ran-more, ran-weaken}
-use Rattle.bands.specs.Band.{Band}
-use Rattle.columns.specs.declared.Sweep.{Sweep}
-use Rattle.columns.specs.declared.Sweep.the-variants.{Same, Changed, Crossed}
-use Rattle.columns.specs.Answer.{SumsMatch, Between, Outcome}
+use Rattle.closing_model.proofs.RanLaws.{ran-more}
+use Rattle.column_rules.specs.declared.Sweep.{Sweep}
+use Rattle.column_rules.specs.declared.Sweep.the-variants.{Same, Changed, Crossed}
+use Rattle.column_rules.specs.Answer.{SumsMatch, Between, Outcome}
 
 -- ---- SumsMatch
 -- the invariant of the loop over the values: p is the place of value v, and the sums and the gap are those of the first v
@@ -94,18 +93,3 @@ pub between-turn : (n k from end t : ℕ) {L U L′ U′ L″ U″ : List ℕ} {
 between-turn n k from end t from≤t t<end ran did flag =
     ran-more ran did (le-refl _) (λ T rules. rules t from≤t t<end)
     (λ T upto rule i from≤i i≤t. dite (ℕ-discrete i t) (λ same. rw same rule) (λ other. upto i from≤i (omega arith))) flag
-
--- some prefixes more, of the loop over all prefixes
-pub columns-more : (n k t e : ℕ) {L U L′ U′ L″ U″ : List ℕ} {r s b : Bool} → e ≤ n + 1
-    → Ran (size n k) (Columns n k (n + 1)) (Columns n k t) L U L′ U′ r → Did (size n k) (Between n k t e) L′ U′ L″ U″ s → b ≡ (r || s)
-    → Ran (size n k) (Columns n k (n + 1)) (Columns n k e) L U L″ U″ b
-columns-more n k t e e≤n+1 ran did flag =
-    ran-more ran did (le-refl _) (λ T rules i t≤i i<e. rules i (omega arith))
-    (λ T upto rule i i<e. dite (decLt i t) (λ i<t. upto i i<t) (λ i≥t. rule i (omega arith) i<e)) flag
-
--- eight prefixes in a row
-pub band-between : (n k t : ℕ) {L U L′ U′ : List ℕ} {r : Bool} (end : ℕ) → t + 8 ≡ end → Did (size n k) (Band n k t) L U L′ U′ r
-    → Did (size n k) (Between n k t end) L U L′ U′ r
-band-between n k t end end-is did =
-    ran-weaken (λ T rules i i<8. rules (t + i) (omega arith) (omega arith))
-    (λ T rules i t≤i i<end. let at : t + (i - t) ≡ i = omega arith in subst (λ (j : ℕ). Across n k j T) at (rules (i - t) (omega arith))) did

@@ -1,12 +1,12 @@
--- `columns::column` meets its contract: by `across-kept` where the sums and the widest gap show that the rules hold, else by what
+-- `column_rules::column` meets its contract: by `across-kept` where the sums and the widest gap show that the rules hold, else by what
 -- `narrow_column` promises. Assumes nothing.
 use Prim.Native.Nat.{_+_}
 use native.Mathlib.Omega.{arith}
 use borrow.Author.Needs.{needs}
 use borrow.Author.Tests.{leb-true}
 use Rattle.closing_model.proofs.AcrossLaws.{across-kept}
-use Rattle.columns.proofs.column.Statement.{statement}
-use Rattle.columns.proofs.column.Tie as tie
+use Rattle.column_rules.proofs.column.Statement.{statement}
+use Rattle.column_rules.proofs.column.Tie as tie
 
 column-sums-requires : tie.Need-column-sums-requires
 column-sums-requires c κs = search needs
