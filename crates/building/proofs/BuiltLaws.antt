@@ -1,4 +1,4 @@
--- The laws of `Visit` and `Built` of specs/Built.antt: one for each return of `visit`, the start of `fill` (`done-first`), one turn of it (`turn-broken`, `turn-onward`,
+-- The laws of `Built` of specs/Built.antt: the start of `fill` (`done-first`), one turn of it (`turn-broken`, `turn-onward`,
 -- and `done-back`: the corners after the one that is found next are done) and its answers (`built-broken`, `built-all`), which hold for each line
 -- with these rises as they do for `lineOf` (`rising-line`). No contract cites this file. Assumes nothing.
 use mathlib.Core.Path.{_≡_, refl, sym, _∙_, subst}
@@ -17,33 +17,10 @@ use Rattle.segments_model.proofs.EndLaws.{withEnd-inner, withReserve-inner}
 use Rattle.segments_model.proofs.LinesLaws.{rising-line, line-bound}
 use Rattle.segments_model.proofs.SlackLaws.{segments-same, broken-same}
 use Rattle.corners.specs.Turn.{PreviousCorner}
-use Rattle.building.specs.declared.Visited.{Visited}
-use Rattle.building.specs.declared.Visited.the-variants.{Lacking, Onward}
-use Rattle.building.specs.Built.{VisitAnswer, Visit, DoneAfter, Built}
-
--- ---- Visit
-
-module _ (n t : ℕ) (corner : Bool) (gained lost next : ℕ) (l : List ℕ) (0<t : 0 < t) where
-  pub visit-skip : corner ≡ false → Visit n t corner gained lost next l l (Onward next)
-  visit-skip flat = record { size = refl; answer = λ C g h corner-is gained-is lost-is done. done-skip done 0<t (corner-is ∙ flat) }
-
-  module _ (turns : corner ≡ true) where
-    pub visit-lacking : t ≤ n → gained < lost → Visit n t corner gained lost next l l Lacking
-    visit-lacking t≤n short =
-        record {
-          size = refl;
-          answer = λ C g h corner-is gained-is lost-is done.
-              record { above = 0<t; inside = t≤n; corner = corner-is ∙ turns; broken = omega arith };
-        }
-
-    pub visit-insert : (l′ : List ℕ) (first : ℕ) → lost ≤ gained → Inserted n t (gained - lost) next l l′ first
-        → Visit n t corner gained lost next l l′ (Onward first)
-    visit-insert l′ first enough inserted =
-        record {
-          size = inserted .size;
-          answer = λ C g h corner-is gained-is lost-is done.
-              done-insert done 0<t l′ (gained - lost) first (corner-is ∙ turns) (omega arith) (omega arith) inserted;
-        }
+use Rattle.inserting.specs.declared.Visited.{Visited}
+use Rattle.inserting.specs.declared.Visited.the-variants.{Lacking, Onward}
+use Rattle.inserting.specs.Visit.{VisitAnswer, Visit}
+use Rattle.building.specs.Built.{DoneAfter, Built}
 
 -- ---- one turn of `fill`, on the line that the rises give
 

@@ -1,3 +1,2 @@
-pub mod BuiltLaws
 pub mod OpenedLaws
 pub mod PruneLaws

@@ -14,7 +14,7 @@ use Rattle.filter_model.proofs.StateLaws.{moved-refl, world-cells}
 use Rattle.filter.specs.Filtered.{Filtered}
 use Rattle.outcomes.specs.declared.Outcome.{Outcome}
 use Rattle.outcomes.specs.declared.Outcome.the-variants.{Live, Dead}
-use Rattle.opening.specs.Built.{AllBuilt}
+use Rattle.mirroring.specs.Built.{AllBuilt}
 use Rattle.opening.specs.Opened.{Anything, Opening, QuietBelow, OpenMeaning, OpenAnswer}
 
 -- ---- all rows pruned, for a table that the cells mirror

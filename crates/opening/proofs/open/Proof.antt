@@ -2,7 +2,7 @@
 use borrow.Author.Tests.{not-true, not-false}
 use borrow.Author.Needs.{needs}
 use Rattle.opening.proofs.OpenedLaws.{built-opening, open-broken, open-pruned}
-use Rattle.opening.proofs.BuiltLaws.{built-at}
+use Rattle.mirroring.proofs.BuiltLaws.{built-at}
 use Rattle.opening.proofs.open.Statement.{statement}
 use Rattle.opening.proofs.open.Tie as tie
 

@@ -1,11 +1,11 @@
--- `opening::build_all` meets its contract: the rows of one kind, then those of the other, then the set of open slots (`all-broken-low`,
+-- `mirroring::build_all` meets its contract: the rows of one kind, then those of the other, then the set of open slots (`all-broken-low`,
 -- `all-broken-high`, `all-built`). Assumes nothing.
 use native.Mathlib.Omega.{arith}
 use borrow.Author.Tests.{not-true, not-false}
 use borrow.Author.Needs.{needs}
-use Rattle.opening.proofs.BuiltLaws.{rows-at, all-broken-low, all-broken-high, all-built}
-use Rattle.opening.proofs.build_all.Statement.{statement}
-use Rattle.opening.proofs.build_all.Tie as tie
+use Rattle.mirroring.proofs.BuiltLaws.{rows-at, all-broken-low, all-broken-high, all-built}
+use Rattle.mirroring.proofs.build_all.Statement.{statement}
+use Rattle.mirroring.proofs.build_all.Tie as tie
 
 build-rows-requires : tie.Need-build-rows-requires
 build-rows-requires c κs = search needs

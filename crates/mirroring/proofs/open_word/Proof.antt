@@ -1,13 +1,13 @@
--- `opening::open_word` meets its contract. The invariant of its loop: the bits below i are those of the open slots (`WordOf`). The measure is 16
+-- `mirroring::open_word` meets its contract. The invariant of its loop: the bits below i are those of the open slots (`WordOf`). The measure is 16
 -- less i. Each turn is `word-skip` or `word-more`. Assumes nothing.
 use mathlib.Core.List.{List}
 use Prim.Native.Nat.{ℕ, _-_, _≤_}
 use native.Mathlib.Omega.{arith}
 use borrow.Author.Needs.{needs}
-use Rattle.opening.specs.Built.{WordOf}
-use Rattle.opening.proofs.BuiltLaws.{word-none, word-skip, word-lacks, word-more, word-all}
-use Rattle.opening.proofs.open_word.Statement.{statement}
-use Rattle.opening.proofs.open_word.Tie as tie
+use Rattle.mirroring.specs.Built.{WordOf}
+use Rattle.mirroring.proofs.BuiltLaws.{word-none, word-skip, word-lacks, word-more, word-all}
+use Rattle.mirroring.proofs.open_word.Statement.{statement}
+use Rattle.mirroring.proofs.open_word.Tie as tie
 
 -- the bits below i are those of the open slots
 record WordInv (masks : List ℕ) (n base x i : ℕ) : Type 0 where

@@ -1,4 +1,4 @@
--- `building::insert` meets its contract: each of its five returns is one law of `InsertLaws` of segments_model. Assumes nothing.
+-- `inserting::insert` meets its contract: each of its five returns is one law of `InsertLaws` of segments_model. Assumes nothing.
 use mathlib.Core.Path.{_∙_, subst}
 use Prim.Native.Nat.{ℕ, _+_, _-_}
 use native.Mathlib.Omega.{arith}
@@ -6,8 +6,8 @@ use lib.ListN.{set, length-set}
 use Rattle.segments_model.specs.Build.{Pointed}
 use Rattle.segments_model.proofs.InsertLaws.{inserted-spent, inserted-behind, inserted-zero, inserted-alone, inserted-before}
 use borrow.Author.Needs.{needs}
-use Rattle.building.proofs.insert.Statement.{statement}
-use Rattle.building.proofs.insert.Tie as tie
+use Rattle.inserting.proofs.insert.Statement.{statement}
+use Rattle.inserting.proofs.insert.Tie as tie
 
 slice-read-if1 : tie.Need-slice-read-if1
 slice-read-if1 c = search needs

@@ -1,11 +1,11 @@
--- `building::visit` meets its contract: no corner, a corner that lacks slack, and one that is inserted (`visit-skip`, `visit-lacking`,
+-- `inserting::visit` meets its contract: no corner, a corner that lacks slack, and one that is inserted (`visit-skip`, `visit-lacking`,
 -- `visit-insert`). Assumes nothing.
 use native.Mathlib.Omega.{arith}
 use borrow.Author.Tests.{not-true, not-false}
-use Rattle.building.proofs.BuiltLaws.{visit-skip, visit-lacking, visit-insert}
+use Rattle.inserting.proofs.VisitLaws.{visit-skip, visit-lacking, visit-insert}
 use borrow.Author.Needs.{needs}
-use Rattle.building.proofs.visit.Statement.{statement}
-use Rattle.building.proofs.visit.Tie as tie
+use Rattle.inserting.proofs.visit.Statement.{statement}
+use Rattle.inserting.proofs.visit.Tie as tie
 
 returns : tie.Need-returns
 returns c =

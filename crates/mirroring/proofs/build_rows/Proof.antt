@@ -1,4 +1,4 @@
--- `opening::build_rows` meets its contract. The invariant of its loop: the rows of the values below v are built (`RowsBuilt`). The measure is
+-- `mirroring::build_rows` meets its contract. The invariant of its loop: the rows of the values below v are built (`RowsBuilt`). The measure is
 -- k less v. Each turn is `rows-more`. Assumes nothing.
 use mathlib.Core.List.{List}
 use mathlib.Core.Bool.{Bool, true}
@@ -6,10 +6,10 @@ use Prim.Native.Nat.{ℕ, _-_, _≤_}
 use native.Mathlib.Omega.{arith}
 use borrow.Author.Needs.{needs}
 use borrow.Author.Tests.{not-true, not-false}
-use Rattle.opening.specs.Built.{RowsBuilt}
-use Rattle.opening.proofs.BuiltLaws.{row-from-below, row-fits, rows-none, rows-more, rows-broken, rows-all}
-use Rattle.opening.proofs.build_rows.Statement.{statement}
-use Rattle.opening.proofs.build_rows.Tie as tie
+use Rattle.mirroring.specs.Built.{RowsBuilt}
+use Rattle.mirroring.proofs.BuiltLaws.{row-from-below, row-fits, rows-none, rows-more, rows-broken, rows-all}
+use Rattle.mirroring.proofs.build_rows.Statement.{statement}
+use Rattle.mirroring.proofs.build_rows.Tie as tie
 
 -- the rows of the values below v are built
 record RowsInv (lower : Bool) (n k : ℕ) (rises masks cells₀ cells : List ℕ) (v : ℕ) : Type 0 where

@@ -1,4 +1,4 @@
--- `building::blank` meets its contract. The invariant: cell 0 is 0, the cells from 1 on and before t are links to the next place (`Fresh`), and the
+-- `inserting::blank` meets its contract. The invariant: cell 0 is 0, the cells from 1 on and before t are links to the next place (`Fresh`), and the
 -- list is as long as it was. The measure is what is left up to n. One more cell: `fresh-more`. Assumes nothing.
 use mathlib.Core.Path.{_≡_, refl, _∙_}
 use Prim.Native.Nat.{_+_, _-_, _≤_, _<_}
@@ -7,8 +7,8 @@ use lib.ListN.{length, getD, length-set}
 use lib.Seq.{getD-set-same, getD-set-other}
 use Rattle.segments_model.specs.Links.{Fresh}
 use Rattle.segments_model.proofs.LinkedLaws.{fresh-more}
-use Rattle.building.proofs.blank.Statement.{statement}
-use Rattle.building.proofs.blank.Tie as tie
+use Rattle.inserting.proofs.blank.Statement.{statement}
+use Rattle.inserting.proofs.blank.Tie as tie
 
 abbrev Inv-loop : tie.InvT-loop
 Inv-loop cells₀ n t₀ cells t = (0 < t) × (t ≤ n + 1) × (length cells ≡ length cells₀) × (getD cells 0 0 ≡ 0) × Fresh (t - 1) cells

@@ -23,7 +23,7 @@ use Rattle.filter_model.specs.Open.{wordsAt, cellsSize, OpenSlots}
 use Rattle.filter_model.specs.Rises.{risesOf, TableRises}
 use Rattle.filter_model.proofs.RisesLaws.{rises-mirror}
 use Rattle.filter_model.proofs.RowLaws.{row-inside, lent-row}
-use Rattle.opening.specs.Built.{Building, RowsBuilt, WordOf, Marked, BuildMeaning, AllBuilt}
+use Rattle.mirroring.specs.Built.{Building, RowsBuilt, WordOf, Marked, BuildMeaning, AllBuilt}
 
 -- ---- row
 row-below : (kind : Bool) (k v : ℕ) → v < k → row kind k v < k + k

@@ -1,13 +1,13 @@
--- `opening::mark_open` meets its contract. The invariant of its loop: the words before b are written (`Marked`). The measure is 16 less b. Each
+-- `mirroring::mark_open` meets its contract. The invariant of its loop: the words before b are written (`Marked`). The measure is 16 less b. Each
 -- turn is `marked-more`. Assumes nothing.
 use mathlib.Core.List.{List}
 use Prim.Native.Nat.{ℕ, _-_, _≤_}
 use native.Mathlib.Omega.{arith}
 use borrow.Author.Needs.{needs}
-use Rattle.opening.specs.Built.{Marked}
-use Rattle.opening.proofs.BuiltLaws.{marked-none, marked-more, marked-all}
-use Rattle.opening.proofs.mark_open.Statement.{statement}
-use Rattle.opening.proofs.mark_open.Tie as tie
+use Rattle.mirroring.specs.Built.{Marked}
+use Rattle.mirroring.proofs.BuiltLaws.{marked-none, marked-more, marked-all}
+use Rattle.mirroring.proofs.mark_open.Statement.{statement}
+use Rattle.mirroring.proofs.mark_open.Tie as tie
 
 -- the words before b are written
 record MarkInv (n k : ℕ) (masks cells₀ cells : List ℕ) (b : ℕ) : Type 0 where

@@ -1,12 +1,12 @@
--- `building::point` meets its contract. The invariant: i lies between `from` and `next`, c is the link from i to `next`, and the cells from `from`
+-- `inserting::point` meets its contract. The invariant: i lies between `from` and `next`, c is the link from i to `next`, and the cells from `from`
 -- on and before i are such links (`Pointed`). The measure is what is left up to `next`. One more cell: `pointed-more`. Assumes nothing.
 use mathlib.Core.Path.{_≡_}
 use Prim.Native.Nat.{_+_, _-_, _≤_}
 use native.Mathlib.Omega.{arith}
 use Rattle.segments_model.specs.Build.{Pointed}
 use Rattle.segments_model.proofs.LinkedLaws.{pointed-none, pointed-more}
-use Rattle.building.proofs.point.Statement.{statement}
-use Rattle.building.proofs.point.Tie as tie
+use Rattle.inserting.proofs.point.Statement.{statement}
+use Rattle.inserting.proofs.point.Tie as tie
 
 abbrev Inv-loop : tie.InvT-loop
 Inv-loop cells₀ from next c₀ i₀ cells c i = (from ≤ i) × (i ≤ next) × (c + i ≡ 1023 + next) × Pointed from i next cells₀ cells
