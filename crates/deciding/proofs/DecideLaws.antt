@@ -25,7 +25,7 @@ use Rattle.acts.specs.declared.Session.{Session}
 use Rattle.acts.specs.declared.Standing.the-variants.{Live, Dead}
 use Rattle.acts.proofs.RepresentsLaws.{live-working}
 use Rattle.deciding.proofs.CutLaws.{cut-live, cut-dead}
-use Rattle.deciding.proofs.StruckLaws.{moved-strikes}
+use Rattle.cutting.proofs.StruckLaws.{moved-strikes}
 use Rattle.deciding.proofs.WorkingLaws.{working-world, room-moved, working-live, undoable-dead, masks-back, working-dead, room-dead}
 
 -- ---- the machine

@@ -1,4 +1,3 @@
 mod CutLaws
 mod DecideLaws
-mod StruckLaws
 mod WorkingLaws

@@ -1,19 +1,14 @@
-// One call on a session: refused by its number, or done as the plain machine of session_model does it. The contracts cite `Steps` and
-// `Performing` of `specs/Steps.antt`, and `Acts` of acts.
+// One call on a session: refused by its number, or done as the plain machine of session_model does it. The contract cites `Steps` of
+// `specs/Steps.antt`.
 use acts::Session;
 use acts::Stepped;
-use acts::back;
 use acts::is_dead;
-use acts::mark;
-use acts::show;
-use acts::walls;
 use calls::Call;
 use calls::refusal_of;
-use deciding::decide;
+use performing::perform;
 ghost use Rattle.calls.specs.Given.{callGiven};
 ghost use Rattle.acts.specs.Represents.{Running};
-ghost use Rattle.acts.specs.Answers.{Acts};
-ghost use Rattle.stepping.specs.Steps.{Steps, Performing};
+ghost use Rattle.stepping.specs.Steps.{Steps};
 
 // Call i of a list: refused, or done.
 pub fn step(
@@ -45,80 +40,4 @@ pub fn step(
         };
     }
     perform(masks, cells, trail, heights, n, k, session, call, i)
-}
-
-// Call i of a list, where no number refuses it.
-fn perform(
-    masks: &mut [u32],
-    cells: &mut [u16],
-    trail: &mut [u8],
-    heights: &mut [u16],
-    n: usize,
-    k: u32,
-    session: Session,
-    call: Call,
-    i: usize,
-) -> Stepped
-    requires { ⌜ Performing (now masks) (now cells) (now trail) (now heights) n k session (callGiven call) ⌝ }
-    ensures { λ r. ⌜ Acts n k i (callGiven call) session
-        (now (masks .entry)) (now (cells .entry)) (now (trail .entry)) (now (heights .entry))
-        (now (masks .exit)) (now (cells .exit)) (now (trail .exit)) (now (heights .exit)) r ⌝ }
-{
-    let kind = call.kind;
-    let v = call.value;
-    let slot = call.slot;
-    match kind {
-        1 => {
-            return decide(
-                masks,
-                cells,
-                trail,
-                heights,
-                n,
-                k,
-                session,
-                i,
-                true,
-                slot,
-                v,
-            );
-        }
-        2 => {
-            return decide(
-                masks,
-                cells,
-                trail,
-                heights,
-                n,
-                k,
-                session,
-                i,
-                false,
-                slot,
-                v,
-            );
-        }
-        3 => {
-            return mark(heights, session);
-        }
-        4 => {
-            return back(masks, cells, trail, heights, n, k, session);
-        }
-        5 => {
-            return show(masks, session, slot);
-        }
-        6 => {
-            return walls(cells, n, k, session, false, v);
-        }
-        7 => {
-            return walls(cells, n, k, session, true, v);
-        }
-        0 | 8..=255 => {
-            return Stepped {
-                session,
-                first: 267,
-                second: 0,
-            };
-        }
-    }
 }

@@ -1,12 +1,12 @@
--- `deciding::struck` meets its contract. The invariant: `count` is how many strikes were passed. The measure is how many are left. One strike
+-- `cutting::struck` meets its contract. The invariant: `count` is how many strikes were passed. The measure is how many are left. One strike
 -- more: `struck-next`. Assumes nothing.
 use mathlib.Core.Path.{_≡_}
 use Prim.Native.Nat.{_-_, _≤_}
 use native.Mathlib.Omega.{arith}
 use borrow.Author.Needs.{needs}
-use Rattle.deciding.proofs.StruckLaws.{struck-next}
-use Rattle.deciding.proofs.struck.Statement.{statement}
-use Rattle.deciding.proofs.struck.Tie as tie
+use Rattle.cutting.proofs.StruckLaws.{struck-next}
+use Rattle.cutting.proofs.struck.Statement.{statement}
+use Rattle.cutting.proofs.struck.Tie as tie
 
 abbrev Inv-loop : tie.InvT-loop
 Inv-loop trail n from to count₀ i₀ count i = (from ≤ i) × (i ≤ to) × (count ≡ i - from)

@@ -1,12 +1,12 @@
--- `stepping::perform` meets its contract: what an arm's call needs follows, since no number refuses it (`decide-deciding` ..
+-- `performing::perform` meets its contract: what an arm's call needs follows, since no number refuses it (`decide-deciding` ..
 -- `walls-counting`), and a kind that is not known is refused (`unknown-refused`). Assumes nothing.
 use mathlib.Core.Bool.{true, false}
 use borrow.Author.Needs.{needs}
 use Rattle.session_model.proofs.CallsLaws.{callOf-unknown}
-use Rattle.stepping.proofs.StepLaws.{kind-assign, kind-remove, kind-mark, kind-back, kind-show, kind-upper, kind-lower, kind-none, acts-at, decide-deciding, mark-marking, back-backing, show-inside, walls-counting, unknown-refused}
+use Rattle.performing.proofs.PerformLaws.{kind-assign, kind-remove, kind-mark, kind-back, kind-show, kind-upper, kind-lower, kind-none, acts-at, decide-deciding, mark-marking, back-backing, show-inside, walls-counting, unknown-refused}
 use Rattle.calls.proofs.RefusesLaws.{kind-high}
-use Rattle.stepping.proofs.perform.Statement.{statement}
-use Rattle.stepping.proofs.perform.Tie as tie
+use Rattle.performing.proofs.perform.Statement.{statement}
+use Rattle.performing.proofs.perform.Tie as tie
 
 decide-requires : tie.Need-decide-requires
 decide-requires c κs =

@@ -1,9 +1,9 @@
--- `deciding::cut_slot` meets its contract: the filter's `fix` where it is an assign, else its `strike`. Assumes nothing.
+-- `cutting::cut_slot` meets its contract: the filter's `fix` where it is an assign, else its `strike`. Assumes nothing.
 use mathlib.Core.Path.{sym}
 use borrow.Author.Needs.{needs}
 use Rattle.filter.proofs.FilteredLaws.{filtered-at}
-use Rattle.deciding.proofs.cut_slot.Statement.{statement}
-use Rattle.deciding.proofs.cut_slot.Tie as tie
+use Rattle.cutting.proofs.cut_slot.Statement.{statement}
+use Rattle.cutting.proofs.cut_slot.Tie as tie
 
 fix-requires : tie.Need-fix-requires
 fix-requires c κs = search needs
