@@ -2,8 +2,8 @@
 -- `band-done` its end. The rooms are those of the table at the start: a store makes them stale, and stale rooms demand no more than the rules.
 -- `answer-same`, `answer-changed`, `answer-unfit`: what an arm of a match on the answer of `band` knows.
 -- Assumes nothing.
-use mathlib.Core.Path.{_≡_, sym, subst, _∙_}
-use mathlib.Core.Bool.{Bool, true, false, _||_}
+use mathlib.Core.Path.{_≡_, subst}
+use mathlib.Core.Bool.{true, false, _||_}
 use mathlib.Core.List.{List}
 use mathlib.Core.Logic.{dite}
 use Prim.Native.Nat.{ℕ, _+_, _≤_, _<_, min}
@@ -13,7 +13,6 @@ use native.Mathlib.Omega.{arith}
 use borrow.Author.Count.{below-more}
 use borrow.Author.Tests.{lt-ltb, le-ltb}
 use lib.Dec.{ltb}
-use lib.ListN.{length}
 use Rattle.closing_model.specs.Table.{Table, view, size, place}
 use Rattle.closing_model.specs.Sweep.{Crosswise, Ran, Did}
 use Rattle.closing_model.proofs.RanLaws.{ran-none, ran-more}

@@ -11,7 +11,7 @@ use mathlib.Core.Bool.{true, false}
 use mathlib.Core.List.{List}
 use Prim.Native.Nat.{ℕ, _+_, _-_, _≤_, _<_, min}
 use lib.ListN.{length, getD}
-use Rattle.closing_model.specs.Table.{Table, view, size}
+use Rattle.closing_model.specs.Table.{Table, size}
 use Rattle.closing_model.specs.Sweep.{columnSum, Across, Did}
 use Rattle.lanes.specs.declared.Eight.{Eight}
 use Rattle.lanes.specs.Lanes.{lane}

@@ -1,5 +1,5 @@
 // Closing a table of bounds in place (document 01, 'Closing'): the two slices hold lowers and uppers, value by value, and are swept
-// until a sweep changes nothing or finds a crossed entry. No other array is used. The contracts cite specs/Answer.antt, `Fits` of columns'
+// until a sweep changes nothing or finds a crossed entry. No other array is used. The contract cites specs/Answer.antt, `Fits` of column_rules'
 // specs/Answer.antt and the model `closing` of closing_model's specs/Closing.antt.
 use column_rules::Sweep;
 use columns::columns;
@@ -7,9 +7,6 @@ use line_tests::crosses;
 use lines::line;
 use stores::crossed;
 ghost use mathlib.Core.Path.{_≡_};
-ghost use Prim.Native.Nat.{_<_, _≤_};
-ghost use lib.ListN.{length, take, drop};
-ghost use Rattle.closing_model.specs.Table.{size};
 ghost use Rattle.closing_model.specs.Closing.{closing};
 ghost use Rattle.column_rules.specs.Answer.{Fits};
 ghost use Rattle.bounds.specs.Answer.{answered};
@@ -55,15 +52,4 @@ pub fn close_table(lowers: &mut [u16], uppers: &mut [u16], n: usize, k: usize) -
         }
     }
     false
-}
-
-// The same on the first k (n + 1) entries of two slices that may be longer.
-pub fn close_front(lowers: &mut [u16], uppers: &mut [u16], n: usize, k: usize) -> bool
-    requires { ⌜ (n < 65536) × (k < 65536) × (size n k ≤ length (now lowers)) × (size n k ≤ length (now uppers)) ⌝ }
-    ensures { λ r. ⌜ closing n k (take (size n k) (now (lowers .entry))) (take (size n k) (now (uppers .entry))) ≡ answered r (take (size n k) (now (lowers .exit))) (take (size n k) (now (uppers .exit))) ⌝ }
-    ensures { λ r. ⌜ drop (size n k) (now (lowers .exit)) ≡ drop (size n k) (now (lowers .entry)) ⌝ }
-    ensures { λ r. ⌜ drop (size n k) (now (uppers .exit)) ≡ drop (size n k) (now (uppers .entry)) ⌝ }
-{
-    let m = k * (n + 1);
-    close_table(&mut lowers[..m], &mut uppers[..m], n, k)
 }

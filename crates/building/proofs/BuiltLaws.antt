@@ -1,7 +1,7 @@
 -- The laws of `Built` of specs/Built.antt: the start of `fill` (`done-first`), one turn of it (`turn-broken`, `turn-onward`,
 -- and `done-back`: the corners after the one that is found next are done) and its answers (`built-broken`, `built-all`), which hold for each line
 -- with these rises as they do for `lineOf` (`rising-line`). No contract cites this file. Assumes nothing.
-use mathlib.Core.Path.{_≡_, refl, sym, _∙_, subst}
+use mathlib.Core.Path.{_≡_, sym, _∙_, subst}
 use mathlib.Core.Bool.{Bool, true, false, cond}
 use mathlib.Core.List.{List}
 use Prim.Native.Nat.{ℕ, zero, suc, _+_, _-_, _≤_, _<_}
@@ -11,7 +11,7 @@ use lib.ListN.{length, getD}
 use Rattle.segments_model.specs.Build.{Inserted, Done, Counts}
 use Rattle.segments_model.specs.Links.{Fresh}
 use Rattle.segments_model.specs.Lines.{lineOf, cornerOf, gain, loss, reserve, withEnd, withReserve, rowCorners, BrokenAt}
-use Rattle.segments_model.proofs.BuildLaws.{done-skip, done-insert, done-end, broken-inner, segments-done}
+use Rattle.segments_model.proofs.BuildLaws.{done-skip, done-end, broken-inner, segments-done}
 use Rattle.segments_model.proofs.CountsLaws.{gain-is, loss-is}
 use Rattle.segments_model.proofs.EndLaws.{withEnd-inner, withReserve-inner}
 use Rattle.segments_model.proofs.LinesLaws.{rising-line, line-bound}

@@ -15,7 +15,7 @@ use Rattle.domains.specs.Counts.{bit}
 use Rattle.domains.proofs.MaskLaws.{testBit-lt}
 use Rattle.segments_model.specs.Lines.{lineOf, cornerOf}
 use Rattle.segments_model.proofs.LinesLaws.{corner-off, corner-inner}
-use Rattle.corners.specs.Turn.{Straight, PreviousTurn, PreviousCorner}
+use Rattle.corners.specs.Turn.{Straight, PreviousTurn}
 
 -- ---- corners, turns and straight prefixes
 

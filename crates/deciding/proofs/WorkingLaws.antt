@@ -5,7 +5,6 @@ use mathlib.Core.Path.{_≡_, _∙_}
 use mathlib.Core.List.{List}
 use Prim.Native.Nat.{ℕ}
 use native.Mathlib.Omega.{arith}
-use lib.ListN.{length}
 use Rattle.closing_model.specs.Table.{Table}
 use Rattle.filter_model.specs.State.{World, Moved}
 use Rattle.filter_model.proofs.MirrorLaws.{progress-stable}

@@ -1,7 +1,7 @@
 -- The laws of `specs/Counts.antt`, in its order. No contract cites this file. The ones that matter most: `count-mono` and `count-same`
 -- (sums of functions that lie one below the other), `countHas-subset` and `countFixed-subset` (what happens as masks shrink).
 -- Assumes nothing.
-use mathlib.Core.Path.{_≡_, refl, ap, _∙_}
+use mathlib.Core.Path.{_≡_, refl, ap}
 use mathlib.Core.Logic.{dite}
 use mathlib.Core.List.{List}
 use Prim.Native.Nat.{ℕ, zero, suc, _+_, _^_, _≤_, _<_, zero-le}
@@ -9,7 +9,7 @@ use native.Mathlib.Nat.{le-refl, le-antisymm, le-of-eq}
 use native.Mathlib.Numerals.{add-one}
 use native.Mathlib.Decide.{ℕ-discrete}
 use native.Mathlib.Omega.{arith}
-use lib.ListN.{length, getD}
+use lib.ListN.{getD}
 use borrow.Author.Tests.{eq-eqb, ne-eqb}
 use Rattle.domains.specs.Mask.{testBit, Fixed}
 use Rattle.domains.specs.Masks.{Alive, Subset}

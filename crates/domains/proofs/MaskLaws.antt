@@ -12,7 +12,7 @@ use native.Mathlib.Omega.{arith}
 use native.Mathlib.Decide.{ℕ-discrete}
 use lib.Arith.{bin-ind}
 use lib.Pow.{shr-shr, pow-pos, pow-mono, pow-lt}
-use lib.Count.{ones, ones-step, ones-le, trailingZeros, under}
+use lib.Count.{ones, ones-step, trailingZeros, under}
 use Rattle.domains.specs.Mask.{testBit, clearBit, Mask·Subset, Has, Fixed, Lowest}
 
 -- ---- testBit

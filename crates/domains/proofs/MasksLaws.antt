@@ -2,10 +2,10 @@
 -- `subset-antisym` (the order of lists of masks), `has-store-same`, `has-store-other`, `subset-store` and `total-store` (what a store
 -- does), `total-mono` and `total-same` (the measure).
 -- Assumes nothing.
-use mathlib.Core.Path.{_≡_, refl, sym, ap, _∙_}
+use mathlib.Core.Path.{_≡_, refl, ap, _∙_}
 use mathlib.Core.Logic.{dite}
 use mathlib.Core.List.{List, [], _∷_}
-use Prim.Native.Nat.{ℕ, zero, suc, _+_, _^_, _≤_, _<_, zero-le}
+use Prim.Native.Nat.{ℕ, zero, suc, _+_, _≤_, _<_, zero-le}
 use native.Mathlib.Nat.{le-refl, le-trans, le-antisymm, suc-inj}
 use native.Mathlib.Decide.{ℕ-discrete, decLt}
 use native.Mathlib.Omega.{arith}
@@ -13,9 +13,9 @@ use lib.Pow.{pow-pos}
 use lib.ListN.{length, getD, set, length-set, List·getD-eq-default}
 use lib.Seq.{ext-getD, getD-set-same, getD-set-other}
 use lib.Count.{ones}
-use Rattle.domains.specs.Mask.{testBit, clearBit, Has, Fixed}
+use Rattle.domains.specs.Mask.{testBit, clearBit}
 use Rattle.domains.specs.Masks.{HasAt, FixedAt, Alive, Subset, total}
-use Rattle.domains.proofs.MaskLaws.{testBit-lt, testBit-empty, testBit-ext, testBit-clearBit-same, testBit-clearBit-other, testBit-clearBit-le, ones-clearBit, ones-subset, ones-same, fixed-has, fixed-within}
+use Rattle.domains.proofs.MaskLaws.{testBit-lt, testBit-empty, testBit-ext, testBit-clearBit-le, ones-clearBit, ones-subset, ones-same, fixed-has, fixed-within}
 
 -- ---- HasAt, FixedAt
 -- past the end no slot has a value

@@ -1,10 +1,10 @@
--- What the loops of the cycle pass: the values that `fix` strikes (`other-cut`, `other-last`), and the slots that are settled (`free-concerned`,
--- `settled-cut`). No contract cites this file. Assumes nothing.
+-- What the loops of the cycle pass: the values that `fix` strikes (`other-cut`, `other-last`), and the slots that a met bound concerns
+-- (`free-concerned`). No contract cites this file. Assumes nothing.
 use mathlib.Core.Path.{_≡_, sym, ap, _∙_}
 use mathlib.Core.Bool.{Bool, true, false}
 use mathlib.Core.Logic.{dite}
 use mathlib.Core.List.{List}
-use Prim.Native.Nat.{ℕ, _+_, _≤_, _<_}
+use Prim.Native.Nat.{ℕ, _≤_, _<_}
 use native.Mathlib.Nat.{lt-of-not-le}
 use native.Mathlib.Decide.{ℕ-discrete}
 use native.Mathlib.Omega.{arith}
@@ -16,10 +16,8 @@ use Rattle.domains.proofs.MaskLaws.{testBit-lt, testBit-empty, testBit-clearBit
 use Rattle.domains.proofs.MaskLaws.{ones-none, ones-empty, ones-clearBit, testBit-fixed-same, testBit-fixed-other, fixed-within, single-alone}
 use Rattle.domains.proofs.MasksLaws.{has-subset, fixed-has-subset, total-mono}
 use Rattle.settling_model.proofs.SettledLaws.{lacks-not-has}
-use Rattle.filter_model.specs.Cuts.{StrikeCut, FixCut, SlotCut, Concerned}
-use Rattle.filter_model.specs.Mirror.{SettledFrom}
+use Rattle.filter_model.specs.Cuts.{StrikeCut, FixCut, Concerned}
 use Rattle.filter_model.specs.State.{World}
-use Rattle.filter_model.proofs.MirrorLaws.{settled-from-next, settled-from-subset}
 use Rattle.filter_model.proofs.StoreLaws.{single-has-fixed}
 
 -- ---- fix: w is one of the values that the slot has besides v
@@ -77,13 +75,6 @@ other-none M slot v has rest-is none =
 pub free-concerned : (kind : Bool) {M M₀ : List ℕ} → Subset M M₀ → (s v : ℕ) → HasAt M s v → (FixedAt M s v → ⊥) → Concerned kind M₀ s v
 free-concerned true M⊆M₀ s v has free = has-subset M⊆M₀ s v has
 free-concerned false M⊆M₀ s v has free = λ fixed. free (fixed-has-subset M⊆M₀ s v fixed has)
-
--- a slot that is cut as a met bound asks is settled
-pub settled-cut : (kind : Bool) {M M′ : List ℕ} {from : ℕ} (v s : ℕ) → Subset M′ M → SettledFrom M v from s → SlotCut kind s v M′
-    → SettledFrom M′ v from (s + 1)
-settled-cut true v s M′⊆M settled cut = settled-from-next (λ has. cut .fixed) (settled-from-subset M′⊆M settled)
-settled-cut false {M′ = M′} v s M′⊆M settled cut =
-    settled-from-next (λ has. absurd (lacks-not-has M′ s v (cut .lacks) has)) (settled-from-subset M′⊆M settled)
 
 -- ---- the measure
 pub total-less : {N M : List ℕ} → Subset N M → total N ≤ total M

@@ -7,14 +7,13 @@ use mathlib.Core.Logic.{dite}
 use mathlib.Core.List.{List}
 use Prim.Native.Nat.{ℕ, _+_, _-_, _*_, _/_, _≤_, _<_}
 use native.Mathlib.Decide.{ℕ-discrete}
-use native.Mathlib.Nat.{lt-of-not-le}
 use native.Mathlib.Omega.{arith}
 use lib.Count.{ones}
 use lib.ListN.{getD}
 use lib.Pow.{pow-pos}
 use Rattle.domains.specs.Mask.{testBit, Has, Fixed, clearBit}
 use Rattle.domains.specs.Masks.{Subset}
-use Rattle.domains.proofs.MaskLaws.{testBit-empty, testBit-high, testBit-clearBit-other, testBit-clearBit-le, testBit-lt, clearBit-has, clearBit-le, ones-clearBit}
+use Rattle.domains.proofs.MaskLaws.{testBit-empty, testBit-clearBit-other, testBit-clearBit-le, testBit-lt, clearBit-has, clearBit-le, ones-clearBit}
 use Rattle.settling_model.proofs.SettledLaws.{lacks-not-has}
 use Rattle.filter_model.specs.Cuts.{SlotCut}
 use Rattle.filter_model.specs.Mirror.{SettledAt, SettledFrom}
@@ -34,9 +33,6 @@ left-block start-in block = record { word = block .word; before = block .before;
 
 -- one of them is taken
 module _ {start end b x : ℕ} (left : Left start end b x) (w : ℕ) (has : Has x w) where
-  pub left-bit : w < 32
-  left-bit = lt-of-not-le (λ 32≤w. absurd (omega (arith, has, testBit-high 32 x w (left .word) 32≤w)))
-
   module _ {y : ℕ} (y-is : y ≡ clearBit x w) where
     pub left-less : y < x
     left-less = omega (arith, y-is, clearBit-has x w has, pow-pos w)

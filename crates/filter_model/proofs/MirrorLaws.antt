@@ -2,11 +2,10 @@
 -- (for a closed table a list that the cells mirror is stable exactly where every row is quiet), `progress-trans`, `progress-stable`.
 -- Assumes nothing.
 use mathlib.Core.Bool.{Bool, true, false}
-use mathlib.Core.Logic.{inl, inr, ⊎-elim, dite}
+use mathlib.Core.Logic.{inl, inr, ⊎-elim}
 use mathlib.Core.List.{List}
-use Prim.Native.Nat.{ℕ, _+_, _-_, _≤_, _<_, zero-le}
+use Prim.Native.Nat.{ℕ, _-_, _≤_, _<_, zero-le}
 use native.Mathlib.Nat.{le-antisymm}
-use native.Mathlib.Decide.{ℕ-discrete}
 use native.Mathlib.Omega.{arith}
 use Rattle.domains.specs.Masks.{Alive, Subset}
 use Rattle.domains.proofs.MasksLaws.{has-subset, fixed-has-subset}
@@ -77,16 +76,9 @@ module _ (n k : ℕ) (T : Table) (M : List ℕ) where
 pub settled-at-subset : {N M : List ℕ} → Subset N M → (s v : ℕ) → SettledAt M s v → SettledAt N s v
 settled-at-subset N⊆M s v settled = λ has. fixed-has-subset N⊆M s v (settled (has-subset N⊆M s v has)) has
 
--- no slot, one slot more, a smaller end
+-- no slot
 pub settled-from-none : (M : List ℕ) (v from t : ℕ) → t ≤ from → SettledFrom M v from t
 settled-from-none M v from t t≤from = record { each = λ s from≤s s<t. absurd (omega arith) }
-
-pub settled-from-next : {M : List ℕ} {v from t : ℕ} → SettledAt M t v → SettledFrom M v from t → SettledFrom M v from (t + 1)
-settled-from-next {t = t} last settled =
-    record { each = λ s from≤s s≤t. dite (ℕ-discrete s t) (λ e. rw e last) (λ ne. settled .each s from≤s (omega arith)) }
-
-pub settled-from-before : {M : List ℕ} {v from t u : ℕ} → t ≤ u → SettledFrom M v from u → SettledFrom M v from t
-settled-from-before t≤u settled = record { each = λ s from≤s s<t. settled .each s from≤s (omega arith) }
 
 pub settled-from-subset : {N M : List ℕ} {v from t : ℕ} → Subset N M → SettledFrom M v from t → SettledFrom N v from t
 settled-from-subset {v = v} N⊆M settled = record { each = λ s from≤s s<t. settled-at-subset N⊆M s v (settled .each s from≤s s<t) }

@@ -1,9 +1,9 @@
 -- The laws of `specs/Open.antt`, in its order. No contract cites this file. The ones that matter most: `open-strike` (a value struck, the words
 -- as they were), `open-close` (a slot with one value taken out), `closeSlot-back` (put back), `closed-settled` (a slot that is not in the set is
 -- settled). Assumes nothing.
-use mathlib.Core.Path.{_≡_, refl, sym, ap, _∙_}
+use mathlib.Core.Path.{_≡_, sym, ap, _∙_}
 use mathlib.Core.Bool.{Bool, true, false}
-use mathlib.Core.Logic.{_⊎_, inl, inr, dite}
+use mathlib.Core.Logic.{inl, dite}
 use mathlib.Core.List.{List}
 use Prim.Native.Nat.{ℕ, _+_, _-_, _*_, _/_, _%_, _^_, _≤_, _<_}
 use native.Mathlib.Decide.{ℕ-discrete}
@@ -16,7 +16,7 @@ use lib.Seq.{getD-set-same, getD-set-other, set-getD, set-set}
 use Rattle.domains.specs.Mask.{testBit, clearBit}
 use Rattle.domains.proofs.MaskLaws.{testBit-empty, testBit-high, testBit-clearBit-same, testBit-clearBit-other, clearBit-has, ones-subset}
 use Rattle.domains.proofs.MasksLaws.{subset-clearBit}
-use Rattle.segments_model.specs.Part.{part, Lent}
+use Rattle.segments_model.specs.Part.{Lent}
 use Rattle.segments_model.proofs.PartLaws.{lent-apart}
 use Rattle.filter_model.specs.Mirror.{row, cellsOf}
 use Rattle.filter_model.specs.Open.{wordsAt, cellsSize, wordAt, openBit, closeSlot, openSlot, OpenSlots}

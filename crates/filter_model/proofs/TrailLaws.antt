@@ -13,10 +13,10 @@ use lib.ListN.{length, getD, set, length-set}
 use lib.Seq.{getD-set-same, getD-set-other, set-getD, set-set}
 use Rattle.domains.specs.Mask.{clearBit}
 use Rattle.domains.specs.Masks.{HasAt, FixedAt, Subset}
-use Rattle.domains.proofs.MaskLaws.{clearBit-has, testBit-clearBit-same, testBit-put-other, ones-subset, fixed-single}
+use Rattle.domains.proofs.MaskLaws.{clearBit-has, testBit-put-other, ones-subset, fixed-single}
 use Rattle.domains.proofs.MasksLaws.{subset-refl, subset-trans}
 use Rattle.settling_model.specs.Settled.{LacksAt}
-use Rattle.filter_model.specs.Trail.{slotAt, valueAt, tagAt, noteAt, written, noted, putIn, RowRaised, TakenBack, Restores, Kept, Trailed}
+use Rattle.filter_model.specs.Trail.{slotAt, valueAt, tagAt, noteAt, written, noted, putIn, TakenBack, Restores, Kept, Trailed}
 
 -- ---- written
 module _ (n : ℕ) (trail : List ℕ) (i slot v g x : ℕ) where

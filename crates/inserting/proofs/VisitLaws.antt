@@ -4,7 +4,6 @@ use mathlib.Core.Bool.{Bool, true, false}
 use mathlib.Core.List.{List}
 use Prim.Native.Nat.{ℕ, _-_, _≤_, _<_}
 use native.Mathlib.Omega.{arith}
-use lib.ListN.{length}
 use Rattle.segments_model.specs.Build.{Inserted}
 use Rattle.segments_model.proofs.BuildLaws.{done-skip, done-insert}
 use Rattle.inserting.specs.declared.Visited.the-variants.{Lacking, Onward}

@@ -10,7 +10,7 @@ use native.Mathlib.Omega.{arith}
 use borrow.Author.Tests.{eqb-true, eqb-false}
 use lib.Dec.{eqb}
 use lib.ListN.{length, getD}
-use Rattle.segments_model.specs.Links.{gaps, target, Linked}
+use Rattle.segments_model.specs.Links.{gaps, target}
 use Rattle.segments_model.specs.Search.{Latest}
 use Rattle.segments_model.proofs.LinksLaws.{gaps-link}
 use Rattle.segments_model.proofs.SearchLaws.{gap-before}

@@ -9,7 +9,6 @@ use book_masks::clear_masks;
 use book_opening::open_book;
 use outcomes::Outcome;
 use running_model::Ended;
-ghost use mathlib.Core.Path.{_≡_};
 ghost use lib.ListN.{length};
 ghost use Rattle.running_model.specs.BookRan.{Openable, Opens, BookRunnable, BookRan};
 

@@ -12,7 +12,6 @@ use native.Mathlib.Omega.{arith}
 use lib.ListN.{length, getD, set, length-set}
 use Rattle.segments_model.specs.Fall.{MoreThan, Meets, Quieted}
 use Rattle.segments_model.specs.Links.{gaps, nextOf}
-use Rattle.segments_model.specs.Search.{Latest}
 use Rattle.segments_model.proofs.FallenLaws.{clashed, quiet-none, quiet-less, quiet-join, reached-spend}
 use Rattle.segments_model.proofs.LatestLaws.{latest-end, latest-none}
 use Rattle.segments_model.proofs.LinksLaws.{next-after, gaps-first}

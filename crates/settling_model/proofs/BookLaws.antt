@@ -7,7 +7,7 @@ use mathlib.Core.List.{List}
 use mathlib.Core.Option.{Option, some, none, bind, Option·some-injective, Option·some-ne-none, Option·none-ne-some}
 use Prim.Native.Nat.{ℕ, _≤_, _<_}
 use native.Mathlib.Omega.{arith}
-use lib.ListN.{length, getD}
+use lib.ListN.{getD}
 use Rattle.domains.specs.Masks.{HasAt, Subset}
 use Rattle.book.specs.Layout.{slots, values, masks, rows}
 use Rattle.book.proofs.LayoutLaws.{length-masks}

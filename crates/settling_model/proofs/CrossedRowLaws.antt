@@ -17,7 +17,7 @@ use Rattle.book.specs.Refusal.{GoodBook}
 use Rattle.book.specs.GoodFacts.{RowFacts}
 use Rattle.book.proofs.BookLaws.{good-facts}
 use Rattle.closing_model.specs.Start.{speaks, lowOf, highOf}
-use Rattle.closing_model.specs.Table.{Table, Closed, Within, place, size, NoneClosed}
+use Rattle.closing_model.specs.Table.{place, size, NoneClosed}
 use Rattle.closing_model.proofs.PlaceLaws.{place-below, place-value, place-prefix}
 use Rattle.closing_model.proofs.StartLaws.{low-of-last, high-of-last, start-lowers-length, start-uppers-length, start-lowers-at, start-uppers-at}
 use Rattle.closing_model.proofs.ClosingLaws.{none-closing}

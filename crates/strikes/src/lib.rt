@@ -1,11 +1,7 @@
 // One strike: takes a value out of a slot, lets the value's row of cells fall, and that of a value which gets to be the slot's only one, and writes
 // the trail; what follows from it is the filter's. Nothing is refused here. The contracts cite `specs/Answers.antt` and the definitions of
 // filter_model.
-ghost use mathlib.Core.Path.{_≡_};
 ghost use Prim.Native.Nat.{_<_};
-ghost use lib.Count.{ones};
-ghost use lib.ListN.{getD};
-ghost use Rattle.domains.specs.Mask.{clearBit};
 ghost use Rattle.domains.specs.Masks.{HasAt};
 ghost use Rattle.filter_model.specs.State.{Ready};
 ghost use Rattle.strikes.specs.Answers.{Removal·Answer};

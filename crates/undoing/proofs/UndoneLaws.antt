@@ -10,7 +10,6 @@ use lib.Count.{ones}
 use lib.ListN.{length, getD, set, take, drop, length-set}
 use lib.Seq.{getD-set-other, take-set-lt, drop-set-add, getD-take, getD-drop}
 use Rattle.domains.specs.Mask.{Fixed}
-use Rattle.domains.specs.Masks.{FixedAt}
 use Rattle.settling_model.specs.Settled.{LacksAt}
 use Rattle.segments_model.specs.Part.{part, over}
 use Rattle.segments_model.specs.Raise.{endOf, lifted, risen}
@@ -18,7 +17,7 @@ use Rattle.segments_model.proofs.PartLaws.{over-lent}
 use Rattle.segments_model.proofs.RaiseLaws.{risen-lowered}
 use Rattle.filter_model.specs.Open.{wordAt, openBit, openSlot}
 use Rattle.filter_model.specs.State.{World, Moved}
-use Rattle.filter_model.specs.Trail.{slotAt, valueAt, tagAt, noteAt, putIn, RowRaised, UpperRaised, TakenBack, Restores}
+use Rattle.filter_model.specs.Trail.{slotAt, valueAt, tagAt, noteAt, putIn, RowRaised, TakenBack, Restores}
 use Rattle.filter_model.proofs.OpenLaws.{word-inside}
 use Rattle.filter_model.proofs.RowLaws.{row-inside}
 use Rattle.filter_model.proofs.StateLaws.{world-moved}

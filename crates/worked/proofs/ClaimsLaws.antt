@@ -2,7 +2,7 @@
 -- row of a list (`every-says`). By the adequacy of the models: `closedBook-loosest`, `closedBook-none`, `settledBook-settles`; and by `demand3`
 -- and `dead-opening`. No contract cites this file. Assumes nothing.
 use mathlib.Core.Path.{_≡_, refl, sym, _∙_}
-use mathlib.Core.Bool.{Bool, true, false, _&&_, true≢false, and-eq-true-iff}
+use mathlib.Core.Bool.{true, false, _&&_, true≢false, and-eq-true-iff}
 use mathlib.Core.List.{List, [], _∷_}
 use mathlib.Core.Option.{Option, none, some, Option·elim}
 use Prim.Native.Nat.{ℕ}

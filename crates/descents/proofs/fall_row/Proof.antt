@@ -1,7 +1,6 @@
 -- `descents::fall_row` meets its contract: the answer of `segments::fall_in`, read as a clash, a reach, a tag and a note (`dropped-lowered` to
 -- `dropped-reached`). Assumes nothing.
 use mathlib.Core.Path.{_∙_}
-use native.Mathlib.Omega.{arith}
 use Rattle.descents.proofs.FallLaws.{lowered-after, dropped-lowered, dropped-still, dropped-joined, dropped-clash, dropped-reached}
 use borrow.Author.Needs.{needs}
 use Rattle.descents.proofs.fall_row.Statement.{statement}
