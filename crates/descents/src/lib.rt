@@ -1,4 +1,5 @@
-// The fall of one row of cells, told by its reach and by what takes it back. Nothing is refused here. The contracts cite `specs/Told.antt` and the definitions of filter_model.
+// The fall of one row of cells, told by its reach and by what takes it back. Nothing is refused here. The contracts cite `specs/Told.antt` and the
+// definitions of filter_model.
 ghost use mathlib.Core.Path.{_≡_};
 ghost use mathlib.Core.Bool.{cond};
 ghost use Prim.Native.Nat.{_+_, _*_, _-_, _<_, _≤_};

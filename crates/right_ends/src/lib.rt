@@ -1,6 +1,6 @@
-// The right ends of a row of cells: how far a link leads, the last right end before a slot, and the two changes of a row whose leftmost slack or gap is
-// gone. A cell below 1024 is a right end, from 1024 on it is a link (segments_model's `specs/Links.antt`). Nothing is refused here. The contracts cite
-// `specs/Before.antt` and the definitions of segments_model.
+// The right ends of a row of cells: how far a link leads, the last right end before a slot, and what becomes of one whose gap is used up: its segment is
+// spent, or joined to the one before. A cell below 1024 is a right end, from 1024 on it is a link (segments_model's `specs/Links.antt`). Nothing is
+// refused here. The contracts cite `specs/Before.antt` and the definitions of segments_model.
 ghost use mathlib.Core.Path.{_≡_};
 ghost use Prim.Native.Nat.{_+_, _-_, _<_, _≤_};
 ghost use lib.ListN.{length, getD, set};

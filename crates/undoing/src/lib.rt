@@ -1,5 +1,6 @@
 // Undo: takes calls of the filter back. Each strike that the trail has from a height on is taken back, the latest first: its falls by their
-// tags and notes, its value into the masks, and a slot that it left one value into the set of open slots. Nothing is refused here. The contracts cite `specs/Undone.antt` and filter_model's `specs/Trail.antt`.
+// tags and notes, its value into the masks, and a slot that it left one value into the set of open slots. Nothing is refused here. The contracts
+// cite `specs/Undone.antt` and segments_model's `specs/Raise.antt`.
 use state_stores::lift_cell;
 use state_stores::open_slot;
 use state_stores::put_in;
