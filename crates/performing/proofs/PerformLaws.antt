@@ -7,6 +7,7 @@ use mathlib.Core.Option.{none}
 use Prim.Native.Nat.{ℕ, _<_}
 use native.Mathlib.Omega.{arith}
 use borrow.Author.Tests.{leb-false, eqb-false}
+use lib.Dec.{leb}
 use lib.ListN.{length}
 use Rattle.session_model.specs.Calls as Calls
 use Rattle.session_model.specs.Calls.{Call, callOf}
@@ -83,36 +84,31 @@ module _ {masks cells trail heights : List ℕ} {n k : ℕ} {session : Session} 
   live-now : (running : Running masks cells trail heights n k session) → running .state .dead ≡ false → session .standing ≡ Live
   live-now running is = not-dead (session .standing) (sym (running .represents .flag) ∙ is)
 
+  -- for either kind of decision the same three numbers do not apply
+  running-deciding : (running : Running masks cells trail heights n k session) (slot v : ℕ) → leb (running .rules .slots) slot ≡ false
+      → leb (running .rules .values) v ≡ false → running .state .dead && true ≡ false → Deciding masks cells trail heights n k session slot v
+  running-deciding running slot v no-slot no-value no-death =
+      let R = running .rules in
+      let suits = running .represents .suits in
+      let slot-in : slot < R .slots = leb-false (R .slots) slot no-slot in
+      let value-in : v < R .values = leb-false (R .values) v no-value in
+      record {
+        running = running;
+        live = live-now running (and-true (running .state .dead) no-death);
+        slot-in = omega (arith, slot-in, suits .slots);
+        value-in = omega (arith, value-in, suits .values);
+      }
+
   pub decide-deciding : {c : Call} (assign : Bool) (slot v : ℕ) → c ≡ Calls.decide (decisionOf assign slot v)
       → Performing masks cells trail heights n k session c → Deciding masks cells trail heights n k session slot v
   decide-deciding true slot v is performing =
       let running = performing .running in
-      let R = running .rules in
-      let S = running .state in
-      let suits = running .represents .suits in
-      let no = none-applies-not R S (Calls.decide (decisionOf true slot v)) (none-applies is performing) in
-      let slot-in : slot < R .slots = leb-false (R .slots) slot (no slotOut) in
-      let value-in : v < R .values = leb-false (R .values) v (no valueOut) in
-      record {
-        running = running;
-        live = live-now running (and-true (S .dead) (no whileDead));
-        slot-in = omega (arith, slot-in, suits .slots);
-        value-in = omega (arith, value-in, suits .values);
-      }
+      let no = none-applies-not (running .rules) (running .state) (Calls.decide (decisionOf true slot v)) (none-applies is performing) in
+      running-deciding running slot v (no slotOut) (no valueOut) (no whileDead)
   decide-deciding false slot v is performing =
       let running = performing .running in
-      let R = running .rules in
-      let S = running .state in
-      let suits = running .represents .suits in
-      let no = none-applies-not R S (Calls.decide (decisionOf false slot v)) (none-applies is performing) in
-      let slot-in : slot < R .slots = leb-false (R .slots) slot (no slotOut) in
-      let value-in : v < R .values = leb-false (R .values) v (no valueOut) in
-      record {
-        running = running;
-        live = live-now running (and-true (S .dead) (no whileDead));
-        slot-in = omega (arith, slot-in, suits .slots);
-        value-in = omega (arith, value-in, suits .values);
-      }
+      let no = none-applies-not (running .rules) (running .state) (Calls.decide (decisionOf false slot v)) (none-applies is performing) in
+      running-deciding running slot v (no slotOut) (no valueOut) (no whileDead)
 
   pub mark-marking : {c : Call} → c ≡ Calls.mark → Performing masks cells trail heights n k session c → Marking heights session
   mark-marking is performing =
