@@ -5,6 +5,14 @@
 - Every backticked name is defined: names before a file in that file, names with no file after them somewhere under crates/ or in a library.
 - Each row of a table of clauses has five filled cells, its third cell only keys, two wrong programs, and an edit or the words 'no edit:'.
 - The files of a key are just those that its names rest on: the definitions that they reach, name by name, through the specs/ folders.
+
+With --refused it checks instead what the last `rt ci`, or `rt must-fail`, left under target/must-fail:
+
+- Every edit of the tree, so every edit cited, has a log that is no older than the edit and says that the crate is not proved.
+- Each error in it is one of a declaration in a proof, and none is about a name: an edit that does not parse, that a definition or a contract
+  cannot be read with, or that leaves a proof without a need, a module, a field or another name that it cites, shows nothing of a fact.
+
+What it cannot see is whether the fact that fails is the one that the page cites the edit for. How many edits the page does not cite is printed, and no fault.
 """
 import re
 import sys
@@ -19,6 +27,60 @@ faults = []
 
 def fault(number, text):
     faults.append(f'{PAGE.relative_to(ROOT)}:{number}: {text}')
+
+
+# ---- the logs of the edits
+
+# how the prover begins an error of a declaration, and how it says that a name is missing
+DECLARATION = r'`[^`]+`: '
+NO_NAME = r'that can be named from here|is not in scope|has no field|is not a field of|cannot find|not found: '
+
+
+def no_fact(where, message):
+    """Why an error shows nothing of a fact, or None where it is a failed proof."""
+    if re.search(NO_NAME, message):
+        return 'a name is missing'
+    if not re.match(DECLARATION, message):
+        return 'this is no error of a declaration'
+    if not re.match(r'proofs/', where):
+        return 'the text itself does not check'
+    return None
+
+
+def check_log(edit, log):
+    """The faults of one edit's log."""
+    if not log.is_file():
+        return ['it has no log']
+    if log.stat().st_mtime < edit.stat().st_mtime:
+        return ['its log is older than the edit']
+    text = log.read_text()
+    if not re.search(r'^logic=not-proved', text, re.MULTILINE):
+        return ['its log shows no refusal']
+    found = []
+    for line in text.splitlines():
+        error = re.match(rf'(?:\S*/)?{re.escape(log.parent.name)}/(\S+?:\d+:\d+): error(?:\[[\w-]+\])?: (.*)', line)
+        reason = no_fact(*error.groups()) if error else None
+        if reason:
+            found.append(f'{reason}: {error[1]}: {error[2][:120]}')
+    return found[:1]
+
+
+def check_refusals():
+    logs = ROOT / 'target' / 'must-fail'
+    edits = sorted(CRATES.glob('*/must-fail/*.edit'))
+    cited = {file_of(token) for token in re.findall(r'`([^`]+)`', PAGE.read_text())}
+    if not logs.is_dir():
+        faults.append('target/must-fail: there is no such folder; `rt ci` writes it')
+    else:
+        for edit in edits:
+            log = logs / edit.parent.parent.name / edit.stem / '.log'
+            faults.extend(f'{edit.relative_to(ROOT)}: {text}' for text in check_log(edit, log))
+    if not edits:
+        faults.append('crates: no edit')
+    for line in faults:
+        print(line)
+    missing = sum(edit not in cited for edit in edits)
+    print(f'target/must-fail: {len(edits)} edits, {len(edits) - missing} of them cited in docs/PROMISES.md, {missing} not, {len(faults)} faults')
 
 
 # ---- names, files and edits
@@ -195,7 +257,7 @@ def check_row(number, cells, keys):
         fault(number, f'no edit for "{clause}"')
 
 
-def main():
+def check_page():
     sources = texts()
     defined, specs = Defined(sources), Specs(sources)
     lines = PAGE.read_text().splitlines()
@@ -218,6 +280,12 @@ def main():
     for line in faults:
         print(line)
     print(f'docs/PROMISES.md: {rows} clauses, {len(keys)} keys, {len(faults)} faults')
+
+
+def main():
+    if sys.argv[1:] not in ([], ['--refused']):
+        sys.exit('usage: promises_check.py [--refused]')
+    check_refusals() if sys.argv[1:] else check_page()
     sys.exit(1 if faults else 0)
 
 
