@@ -33,7 +33,7 @@ def fault(number, text):
 
 # how the prover begins an error of a declaration, and how it says that a name is missing
 DECLARATION = r'`[^`]+`: '
-NO_NAME = r'that can be named from here|is not in scope|has no field|is not a field of|cannot find|not found: '
+NO_NAME = r'that can be named from here|is not in scope|has no field|is not a field of'
 
 
 def no_fact(where, message):
@@ -42,7 +42,7 @@ def no_fact(where, message):
         return 'a name is missing'
     if not re.match(DECLARATION, message):
         return 'this is no error of a declaration'
-    if not re.match(r'proofs/', where):
+    if not where.startswith('proofs/'):
         return 'the text itself does not check'
     return None
 
@@ -58,7 +58,7 @@ def check_log(edit, log):
         return ['its log shows no refusal']
     found = []
     for line in text.splitlines():
-        error = re.match(rf'(?:\S*/)?{re.escape(log.parent.name)}/(\S+?:\d+:\d+): error(?:\[[\w-]+\])?: (.*)', line)
+        error = re.match(rf'.*?/{log.parent.name}/((?:src|specs|proofs)/\S+?:\d+:\d+): error: (.*)', line)
         reason = no_fact(*error.groups()) if error else None
         if reason:
             found.append(f'{reason}: {error[1]}: {error[2][:120]}')
