@@ -1,6 +1,7 @@
 // planrun: runs the calls of calls.bin on a session of the book of book.bin, both in the working folder, and prints the answers and the last
-// masks, or the number that refuses the two. A file that cannot be opened, or not be read, counts as empty. Of a longer file than any good one
-// just enough is read that its length refuses it. What is printed is tested, not proved: the work is `session::run_session`.
+// masks, or the number that refuses the two. A file that cannot be opened counts as empty. Where a read fails, what was read before it counts as
+// the file: nothing, if it is the first read. Of a longer file than any good one just enough is read that its length refuses it. What is printed is
+// tested, not proved: the work is `session::run_session`.
 use answer::Answer;
 use book::Limits;
 use libc::STDOUT_FILENO;
@@ -32,7 +33,7 @@ fn main() {
     report(answer, &answers, count, &masks, n);
 }
 
-// Reads the file into the front of buf. How many bytes there are, or as many as buf has.
+// Reads the file into the front of buf, as far as it goes or buf has room. How many bytes were read.
 fn read_file(path: &[u8], buf: &mut [u8]) -> usize
     ensures { λ r. ⌜ r ≤ length (now (buf .exit)) ⌝ }
 {
