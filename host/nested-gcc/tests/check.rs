@@ -1,5 +1,5 @@
-//! `check` on books written byte by byte: each refusal with document 01's example, each limit with its
-//! neighbours, and the order of the refusals. Every expected number is typed from document 01.
+//! `check` on books written byte by byte: each refusal of `docs/SPECIFICATION.md`, section 8, with an example, each
+//! limit with its neighbours, and the order of the refusals. Every expected number is typed by hand.
 
 use nested_gcc::{check, Refusal};
 
@@ -85,7 +85,7 @@ fn m8_typed_by_hand_is_good() {
     assert_eq!(check(&book), Ok(()));
 }
 
-/// The column "Example" of document 01's table.
+/// A book for each of the refusals 1 to 8.
 #[test]
 fn examples_of_the_table() {
     let of_257_slots = fields(2, &[3; 257], &[]).bytes();
@@ -99,7 +99,7 @@ fn examples_of_the_table() {
     assert_eq!(check(&m8_but(|b| b.rows[0].3 = 257)), Err(Refusal::RowBound));
 }
 
-/// The column "Condition", and the numbers.
+/// The words and the numbers of section 8.
 #[test]
 fn words_and_numbers_of_the_table() {
     let table = [

@@ -1,5 +1,5 @@
-//! `close` on document 01's worked table and on the edges of its limits, with every expected entry typed by
-//! hand; what it writes, and what it leaves, for lengths about the least that will do.
+//! `close` on the worked examples of `docs/SPECIFICATION.md` and on the edges of its limits, with every expected
+//! entry typed by hand; what it writes, and what it leaves, for lengths about the least that will do.
 
 mod lent;
 

@@ -1,5 +1,5 @@
-//! `session` on document 01's run M8, on each kind of call and each refusal, with every expected word typed by
-//! hand; what it writes, and what it leaves, for lengths about the least that will do.
+//! `session` on the run M8 of `docs/SPECIFICATION.md`, on each kind of call and each refusal, with every expected
+//! word typed by hand; what it writes, and what it leaves, for lengths about the least that will do.
 
 mod chains;
 mod lent;

@@ -1,5 +1,5 @@
-//! `settle` on document 01's worked table, on each rule alone and on chains of them, with every expected mask
-//! typed by hand; what it writes, and what it leaves, for lengths about the least that will do.
+//! `settle` on the worked examples of `docs/SPECIFICATION.md`, on each rule alone and on chains of them, with every
+//! expected mask typed by hand; what it writes, and what it leaves, for lengths about the least that will do.
 
 mod chains;
 mod lent;

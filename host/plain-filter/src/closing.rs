@@ -1,5 +1,5 @@
-//! The plain closing: the rules of document 01 applied entry by entry, again and again, until none of them
-//! changes anything.
+//! The plain closing: the rules of `docs/SPECIFICATION.md`, section 3, applied entry by entry, again and again,
+//! until none of them changes anything.
 
 use crate::Book;
 

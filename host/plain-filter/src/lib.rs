@@ -1,5 +1,5 @@
-//! A plain second filter of order books, for tests: written from document 01 alone, to be read, with no
-//! care for speed. It shares nothing with the proved code.
+//! A plain second filter of order books, for tests: what `docs/SPECIFICATION.md` says, written to be read,
+//! with no care for speed. It shares nothing with the proved code.
 //!
 //! - [`refusal`]: 0 for a good book, else the number of its refusal.
 //! - [`Book`]: a good book, taken apart.

@@ -1,5 +1,5 @@
-//! The plain machine of sessions: document 01's masks M, dead flag and pile of saved masks. Each decision
-//! settles the cut masks anew, and walls are counted by the formula.
+//! The plain machine of sessions (`docs/SPECIFICATION.md`, section 5): masks M, a dead flag and a pile of saved
+//! masks. Each decision settles the cut masks anew, and walls are counted by the formula of section 6.
 
 use crate::settling::largest_stable;
 use crate::{close, settle, Book, Table};

@@ -1,5 +1,5 @@
-//! The plain settling: the rules of document 01 for stable lists, asked type by type and end by end, again
-//! and again, until none of them cuts a mask.
+//! The plain settling: the rules of `docs/SPECIFICATION.md`, section 4, for stable lists, applied type by type
+//! and end by end, again and again, until none of them cuts a mask.
 
 use crate::{close, Book, Table};
 

@@ -1,5 +1,5 @@
-//! The plain closing is document 01's: on small books its table is the loosest of all the closed tables
-//! within the start, found by listing every closed table there is.
+//! The plain closing is that of `docs/SPECIFICATION.md`, section 3: on small books its table is the loosest of
+//! all the closed tables within the start, found by listing every closed table there is.
 
 use plain_filter::{close, start, Book, Row, Table};
 use random_books::{count, every_type, near_plan, plan, Random};

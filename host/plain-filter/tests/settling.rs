@@ -1,5 +1,6 @@
-//! The plain settling is document 01's: on small books its masks are the largest of all the stable lists
-//! within the book's masks, found by listing every list there is; and every plan lies within them.
+//! The plain settling is that of `docs/SPECIFICATION.md`, section 4: on small books its masks are the largest of
+//! all the stable lists within the book's masks, found by listing every list there is; and every plan lies within
+//! them.
 
 use plain_filter::{close, settle, Book, Death, Row, Table};
 use random_books::{every_type, masks_around, near_plan, plan, Random};

@@ -1,6 +1,6 @@
-//! The bundled books: those of document 01's worked table, M1 to M8; M4 with only type 0 in its first two
-//! slots; and one bad book for each refusal number, after the table's example. Where the worked table names
-//! no masks, each slot may have each type. And M8's run: its book and its calls.
+//! The bundled books: those of the worked examples of `docs/SPECIFICATION.md`, section 9, M1 to M8; M4 with only
+//! type 0 in its first two slots; and one bad book for each of the refusals 1 to 8 of section 8. Where an example
+//! names no masks, each slot may have each type. And M8's run: its book and its calls.
 
 use nested_gcc::{Book, Calls};
 
