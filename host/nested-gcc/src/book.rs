@@ -1,5 +1,4 @@
-/// The upper of a row that has no upper bound.
-const NO_UPPER: u16 = 65535;
+use crate::NO_UPPER;
 
 /// A book to be written: slots, types, a mask for each slot, and rows.
 ///
@@ -54,7 +53,7 @@ impl Book {
     }
 
     /// Adds a row: the first `end` slots have at least `lower` of type `board_type` and at most `upper`, where
-    /// `None` means no upper bound, as 65535 does.
+    /// `None` means no upper bound, as [`NO_UPPER`] does.
     pub fn row(mut self, board_type: u8, end: u16, lower: u16, upper: Option<u16>) -> Book {
         let upper = upper.unwrap_or(NO_UPPER);
         self.rows.push(Row { board_type, end, lower, upper });

@@ -8,6 +8,9 @@
 //! - [`close_into`], [`settle_into`] and [`session_into`] write the same into the caller's bytes.
 //! - [`Book`] writes the bytes of a book, [`Calls`] those of a list of calls.
 //!
+//! What a good book, a live one and each answer are is in `docs/SPECIFICATION.md` of the repository; what is left to
+//! whoever links the archive, the stack of a thread above all, in `docs/ASSUMPTIONS.md`.
+//!
 //! ```
 //! use nested_gcc::{check, close, Book, Refusal};
 //!
@@ -36,11 +39,29 @@ pub use refusal::{CallRefusal, Refusal};
 pub use session::{session, session_into, Answer, Session};
 pub use table::Table;
 
+/// The most slots of a good book; the least is 1.
+pub const SLOTS_MOST: usize = 256;
+
+/// The most types of a good book; the least is 1.
+pub const TYPES_MOST: usize = 32;
+
+/// The most rows of a good book; it may have none.
+pub const ROWS_MOST: usize = 1024;
+
+/// The upper of a row that has no upper bound.
+pub const NO_UPPER: u16 = 65535;
+
+/// The most marks of a session that are open at a time.
+pub const MARKS_MOST: usize = 256;
+
+/// The most bytes of a good book: 12, 4 for each of 256 slots, and 8 for each of 1024 rows.
+pub const BOOK_BYTES: usize = 12 + 4 * SLOTS_MOST + 8 * ROWS_MOST;
+
 /// The most bytes that [`close_into`] writes into each output: 257 elements of 2 bytes for each of 32 types.
-pub const TABLE_BYTES: usize = 2 * 32 * 257;
+pub const TABLE_BYTES: usize = 2 * TYPES_MOST * (SLOTS_MOST + 1);
 
 /// The most bytes of masks that [`settle_into`] and [`session_into`] write: 4 for each of 256 slots.
-pub const MASKS_BYTES: usize = 4 * 256;
+pub const MASKS_BYTES: usize = 4 * SLOTS_MOST;
 
 /// The most bytes of calls that [`session`] takes: 4 for each of 4096 calls.
 pub const CALLS_BYTES: usize = 4 * 4096;
