@@ -1,0 +1,35 @@
+/* Buffers of length 0, each passed as NULL. So an empty std::vector may be passed as v.data() and v.size(), whatever its
+ * data() is. The book has one slot, two types and no rows; the one call shows slot 0. */
+#include "nested_gcc.h"
+#include <stdio.h>
+
+static const uint8_t book[] = {
+    1, 0, 2, 0, 0, 0, 12, 0, 16, 0, 16, 0,  /* n, k, 0, r, masks at, rows at, length */
+    3, 0, 0, 0,                             /* mask */
+};
+static const uint8_t call[] = { NESTED_GCC_SHOW, 0, 0, 0 };
+
+static void print(const char *what, uint32_t answer) {
+    printf("%s: %u\n", what, (unsigned)answer);
+}
+
+int main(void) {
+    uint8_t lowers[8], uppers[8], answers[8], masks[4] = { 0, 0, 0, 0 };
+    print("check, no book", nested_gcc_check(NULL, 0));
+    print("close, no book", nested_gcc_close(NULL, 0, lowers, sizeof lowers, uppers, sizeof uppers));
+    print("close, no lowers", nested_gcc_close(book, sizeof book, NULL, 0, uppers, sizeof uppers));
+    print("close, no uppers", nested_gcc_close(book, sizeof book, lowers, sizeof lowers, NULL, 0));
+    print("settle, no book", nested_gcc_settle(NULL, 0, masks, sizeof masks));
+    print("settle, no masks", nested_gcc_settle(book, sizeof book, NULL, 0));
+    print("session, no book",
+          nested_gcc_session(NULL, 0, call, sizeof call, answers, sizeof answers, masks, sizeof masks));
+    print("session, a call and no answers",
+          nested_gcc_session(book, sizeof book, call, sizeof call, NULL, 0, masks, sizeof masks));
+    print("session, a call and no masks",
+          nested_gcc_session(book, sizeof book, call, sizeof call, answers, sizeof answers, NULL, 0));
+    print("nothing at all", nested_gcc_session(NULL, 0, NULL, 0, NULL, 0, NULL, 0));
+    print("session, no calls and no answers",
+          nested_gcc_session(book, sizeof book, NULL, 0, NULL, 0, masks, sizeof masks));
+    printf("mask of slot 0: %u\n", masks[0]);
+    return 0;
+}

@@ -1,0 +1,158 @@
+//! The functions of `include/nested_gcc.h`, called as a C host calls them, with NULL for each buffer that has length 0,
+//! as an empty `std::vector` may have. Every expected number and byte is typed by hand.
+
+use std::ptr::{null, null_mut};
+
+// The crate has the archive linked.
+use nested_gcc as _;
+
+extern "C" {
+    fn nested_gcc_check(book: *const u8, book_len: usize) -> u32;
+    fn nested_gcc_close(
+        book: *const u8,
+        book_len: usize,
+        lowers: *mut u8,
+        lowers_len: usize,
+        uppers: *mut u8,
+        uppers_len: usize,
+    ) -> u32;
+    fn nested_gcc_settle(book: *const u8, book_len: usize, masks: *mut u8, masks_len: usize) -> u32;
+    fn nested_gcc_session(
+        book: *const u8,
+        book_len: usize,
+        calls: *const u8,
+        calls_len: usize,
+        answers: *mut u8,
+        answers_len: usize,
+        masks: *mut u8,
+        masks_len: usize,
+    ) -> u32;
+}
+
+/// One slot, two types, no rows: live, with mask 3.
+const LIVE: [u8; 16] = [1, 0, 2, 0, 0, 0, 12, 0, 16, 0, 16, 0, 3, 0, 0, 0];
+
+/// One slot, one type, one row: type 0, end 1, lower 2, no upper. It is dead.
+const DEAD: [u8; 24] = [1, 0, 1, 0, 1, 0, 12, 0, 16, 0, 24, 0, 1, 0, 0, 0, 0, 0, 1, 0, 2, 0, 255, 255];
+
+/// A show of slot 0.
+const CALL: [u8; 4] = [5, 0, 0, 0];
+
+/// What an output holds at first.
+const OLD: u8 = 0xa5;
+
+#[test]
+fn check_without_a_book() {
+    // SAFETY: no byte is lent.
+    assert_eq!(unsafe { nested_gcc_check(null(), 0) }, 257);
+}
+
+/// `nested_gcc_close` with `None` as NULL and 0, and what it left in the outputs that are lent.
+fn close(book: Option<&[u8]>, with_lowers: bool, with_uppers: bool) -> (u32, [u8; 9], [u8; 9]) {
+    let (mut lowers, mut uppers) = ([OLD; 9], [OLD; 9]);
+    let (lowers_at, lowers_len) = if with_lowers { (lowers.as_mut_ptr(), 9) } else { (null_mut(), 0) };
+    let (uppers_at, uppers_len) = if with_uppers { (uppers.as_mut_ptr(), 9) } else { (null_mut(), 0) };
+    let (book_at, book_len) = book.map_or((null(), 0), |book| (book.as_ptr(), book.len()));
+    // SAFETY: each pointer has so many bytes, apart from the others, or is NULL with length 0.
+    let answer = unsafe { nested_gcc_close(book_at, book_len, lowers_at, lowers_len, uppers_at, uppers_len) };
+    (answer, lowers, uppers)
+}
+
+#[test]
+fn close_with_null() {
+    let old = [OLD; 9];
+    for book in [None, Some(&LIVE[..]), Some(&DEAD[..])] {
+        for (with_lowers, with_uppers) in [(false, false), (false, true), (true, false), (true, true)] {
+            // 1 for no book; 9 for an output too short, be the book live or dead. A refusal writes nothing.
+            let refusal = match book {
+                None => 257,
+                Some(_) if !with_lowers || !with_uppers => 265,
+                Some(_) => continue,
+            };
+            assert_eq!(
+                close(book, with_lowers, with_uppers),
+                (refusal, old, old),
+                "{book:?} {with_lowers} {with_uppers}"
+            );
+        }
+    }
+    // Beside those a call with nothing NULL, so that the buffers above are known to be good: two types, ends 0 and 1.
+    let (answer, lowers, uppers) = close(Some(&LIVE), true, true);
+    assert_eq!((answer, lowers), (0, [0, 0, 0, 0, 0, 0, 0, 0, OLD]));
+    assert_eq!(uppers, [0, 0, 1, 0, 0, 0, 1, 0, OLD]);
+}
+
+/// `nested_gcc_settle` with `None` as NULL and 0, and what it left in the output if that is lent.
+fn settle(book: Option<&[u8]>, with_masks: bool) -> (u32, [u8; 5]) {
+    let mut masks = [OLD; 5];
+    let (masks_at, masks_len) = if with_masks { (masks.as_mut_ptr(), 5) } else { (null_mut(), 0) };
+    let (book_at, book_len) = book.map_or((null(), 0), |book| (book.as_ptr(), book.len()));
+    // SAFETY: each pointer has so many bytes, apart from the other, or is NULL with length 0.
+    let answer = unsafe { nested_gcc_settle(book_at, book_len, masks_at, masks_len) };
+    (answer, masks)
+}
+
+#[test]
+fn settle_with_null() {
+    let old = [OLD; 5];
+    assert_eq!(settle(None, false), (257, old));
+    assert_eq!(settle(None, true), (257, old));
+    assert_eq!(settle(Some(&LIVE), false), (265, old));
+    assert_eq!(settle(Some(&DEAD), false), (265, old));
+    assert_eq!(settle(Some(&LIVE), true), (0, [3, 0, 0, 0, OLD]));
+}
+
+/// `nested_gcc_session` with `None` as NULL and 0, and what it left in the outputs that are lent.
+fn session(
+    book: Option<&[u8]>,
+    calls: Option<&[u8]>,
+    with_answers: bool,
+    with_masks: bool,
+) -> (u32, [u8; 9], [u8; 5]) {
+    let (mut answers, mut masks) = ([OLD; 9], [OLD; 5]);
+    let (answers_at, answers_len) = if with_answers { (answers.as_mut_ptr(), 9) } else { (null_mut(), 0) };
+    let (masks_at, masks_len) = if with_masks { (masks.as_mut_ptr(), 5) } else { (null_mut(), 0) };
+    let (book_at, book_len) = book.map_or((null(), 0), |book| (book.as_ptr(), book.len()));
+    let (calls_at, calls_len) = calls.map_or((null(), 0), |calls| (calls.as_ptr(), calls.len()));
+    // SAFETY: each pointer has so many bytes, apart from the others, or is NULL with length 0.
+    let answer = unsafe {
+        nested_gcc_session(
+            book_at,
+            book_len,
+            calls_at,
+            calls_len,
+            answers_at,
+            answers_len,
+            masks_at,
+            masks_len,
+        )
+    };
+    (answer, answers, masks)
+}
+
+#[test]
+fn session_with_null() {
+    let (old_answers, old_masks) = ([OLD; 9], [OLD; 5]);
+    // No book: 1, whatever else is NULL.
+    for calls in [None, Some(&CALL[..])] {
+        for (with_answers, with_masks) in [(false, false), (false, true), (true, false), (true, true)] {
+            let left = session(None, calls, with_answers, with_masks);
+            assert_eq!(left, (257, old_answers, old_masks), "{calls:?} {with_answers} {with_masks}");
+        }
+    }
+    // A list without calls is good, and needs no answers; the masks are written, 0 of a dead book.
+    for with_answers in [false, true] {
+        assert_eq!(session(Some(&LIVE), None, with_answers, true), (0, old_answers, [3, 0, 0, 0, OLD]));
+        assert_eq!(session(Some(&DEAD), None, with_answers, true), (1, old_answers, [0, 0, 0, 0, OLD]));
+        // 9: there is no room for the mask.
+        assert_eq!(session(Some(&LIVE), None, with_answers, false), (265, old_answers, old_masks));
+        assert_eq!(session(Some(&DEAD), None, with_answers, false), (265, old_answers, old_masks));
+    }
+    // 9: there is no room for the answer.
+    assert_eq!(session(Some(&LIVE), Some(&CALL), false, true), (265, old_answers, old_masks));
+    // 10 comes before 9.
+    assert_eq!(session(Some(&LIVE), Some(&CALL[..3]), false, false), (266, old_answers, old_masks));
+    // Nothing NULL: the value 3.
+    let whole = (0, [2, 0, 0, 0, 3, 0, 0, 0, OLD], [3, 0, 0, 0, OLD]);
+    assert_eq!(session(Some(&LIVE), Some(&CALL), true, true), whole);
+}
