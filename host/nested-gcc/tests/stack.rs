@@ -1,4 +1,5 @@
-//! The stack that a call needs: measured on a thread whose stack is painted beforehand.
+//! The stack that a call needs: measured on a thread whose stack is painted beforehand. `-- --nocapture` prints the
+//! figures.
 
 mod chains;
 
@@ -10,8 +11,12 @@ use nested_gcc::{
     check, close_into, session_into, settle_into, Book, Calls, Refusal, Verdict, ANSWERS_BYTES, MASKS_BYTES,
     TABLE_BYTES,
 };
+use random_books::{bytes, masks_around, near_plan, plan, Random};
 
-// What include/nested_gcc.h promises for each function.
+/// How many random books are measured.
+const BOOKS: usize = 1_000;
+
+// What include/nested_gcc.h says that this test holds.
 const CHECK: usize = 4 * 1024;
 const CLOSE: usize = 48 * 1024;
 const SETTLE: usize = 320 * 1024;
@@ -57,9 +62,18 @@ extern "C" fn run(argument: *mut c_void) -> *mut c_void {
     ptr::null_mut()
 }
 
-/// How far below its caller's frame `call` writes. The few bytes of the caller below its mark are counted
-/// too.
-fn bytes_needed(call: &mut dyn FnMut()) -> usize {
+/// Bytes of a thread's stack.
+#[derive(Clone, Copy, Default)]
+struct Needed {
+    /// From the frame of the caller down to the lowest byte that the call wrote. The few bytes of the caller below
+    /// its mark are counted too.
+    call: usize,
+    /// From the top of the stack: with the frames that start the thread and what the C library keeps there.
+    thread: usize,
+}
+
+/// How far down `call` writes.
+fn bytes_needed(call: &mut dyn FnMut()) -> Needed {
     let mut stack = Box::new(Stack([PAINT; STACK]));
     let mut task = Task { call, frame: 0 };
     let mut attributes = Attributes([0; 128]);
@@ -76,7 +90,7 @@ fn bytes_needed(call: &mut dyn FnMut()) -> usize {
     let bottom = stack.0.as_ptr() as usize;
     let untouched = stack.0.iter().take_while(|&&byte| byte == PAINT).count();
     assert!(untouched > 0, "the thread used its whole stack");
-    task.frame - (bottom + untouched)
+    Needed { call: task.frame - (bottom + untouched), thread: STACK - untouched }
 }
 
 /// Runs `call` on each book: it answers what is expected, and needs no more stack than is promised.
@@ -88,9 +102,9 @@ fn measure<T: PartialEq + Debug>(
     for (name, book, expected) in books {
         let mut answer = None;
         let needed = bytes_needed(&mut || answer = Some(call(book)));
-        println!("{name}: {needed} bytes of stack");
+        println!("{name}: {} bytes of stack, {} of the thread", needed.call, needed.thread);
         assert_eq!(answer.as_ref(), Some(expected), "{name}");
-        assert!(needed <= promised, "{name}: {needed} bytes of stack");
+        assert!(needed.call <= promised, "{name}: {} bytes of stack", needed.call);
     }
 }
 
@@ -194,4 +208,55 @@ fn session_needs_at_most_the_promised_stack() {
     measure(SESSION, |book| session_into(book, calls.as_bytes(), &mut answers, &mut masks), &books);
     let short = [("an output too short", longest.to_bytes(), Err(Refusal::OutputTooShort))];
     measure(SESSION, |book| session_into(book, calls.as_bytes(), &mut answers, &mut masks[1..]), &short);
+}
+
+/// A book of 256 slots and 2 to 32 types around a plan, which it keeps, and a list of up to 400 decisions, marks and
+/// backs.
+fn random_book_and_calls(random: &mut Random) -> (Vec<u8>, Calls) {
+    let k = random.one_of(&[2, 3, 4, 6, 8, 16, 32]);
+    let (longest, rows, slack) = (random.between(1, 4), random.between(32, 1024), random.below(3));
+    let plan = plan(random, 256, k, longest);
+    let mut book = near_plan(random, &plan, k, rows, slack);
+    if random.below(3) > 0 {
+        let eighths = random.between(1, 8);
+        book.masks = masks_around(random, &plan, k, eighths);
+    }
+    let mut calls = Calls::new();
+    for _ in 0..random.between(1, 400) {
+        let slot = random.below(256);
+        match random.below(6) {
+            0 => calls.mark(),
+            1 => calls.back(),
+            2 => calls.assign(slot as u16, plan[slot] as u8),
+            3 => calls.assign(slot as u16, random.below(k) as u8),
+            _ => calls.remove(slot as u16, random.below(k) as u8),
+        };
+    }
+    (bytes(&book), calls)
+}
+
+#[test]
+fn random_books_need_at_most_the_promised_stack() {
+    let mut random = Random::new(1_234_567);
+    let mut answers = vec![0; ANSWERS_BYTES];
+    let mut masks = [0; MASKS_BYTES];
+    let (mut settling, mut session) = (Vec::new(), Vec::new());
+    for _ in 0..BOOKS {
+        let (book, calls) = random_book_and_calls(&mut random);
+        let mut answer = None;
+        settling.push(bytes_needed(&mut || answer = Some(settle_into(&book, &mut masks))));
+        assert_eq!(answer, Some(Ok(Verdict::Live)));
+        session.push(bytes_needed(&mut || {
+            answer = Some(session_into(&book, calls.as_bytes(), &mut answers, &mut masks));
+        }));
+        assert_eq!(answer, Some(Ok(Verdict::Live)));
+    }
+    for (name, needed, promised) in [("settle", settling, SETTLE), ("session", session, SESSION)] {
+        let mut calls: Vec<usize> = needed.iter().map(|needed| needed.call).collect();
+        calls.sort();
+        let (least, middle, most) = (calls[0], calls[BOOKS / 2], calls[BOOKS - 1]);
+        let thread = needed.iter().map(|needed| needed.thread).max().unwrap_or(0);
+        println!("{name} on random books: {least}, {middle}, {most} bytes of stack, {thread} of the thread");
+        assert!(most <= promised, "{name}: {most} bytes of stack");
+    }
 }
