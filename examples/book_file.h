@@ -1,11 +1,12 @@
 /* Reads the book files of the examples that take file names. */
+#include "nested_gcc.h"
 #include <stdint.h>
 #include <stdio.h>
 #include <stdlib.h>
 
-/* The longest good book has 12 + 4 * 256 + 8 * 1024 = 9228 bytes. Of a longer file only the first
- * bytes are read, one more than that, and no book of that length is good. */
-#define BOOK_MOST (9228 + 1)
+/* Of a file that is longer than any good book only the first bytes are read, one more than the longest has, and no
+ * book of that length is good. */
+#define BOOK_MOST (NESTED_GCC_BOOK_BYTES + 1)
 
 /* Reads the file into book, which has BOOK_MOST bytes, and returns how many bytes were read. Ends the program
  * if the file cannot be read. */

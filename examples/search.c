@@ -18,7 +18,6 @@
 #define SLOTS 16
 #define TYPES 4
 #define ROWS 5
-#define NO_UPPER 65535u
 #define BOOK_BYTES (12 + 4 * SLOTS + 8 * ROWS)
 #define CALLS_MOST (SLOTS * (TYPES - 1))
 
@@ -27,7 +26,11 @@ static const unsigned book_masks[SLOTS] = { 7, 7, 7, 7, 13, 13, 13, 13, 14, 14, 
 static const struct row {
     unsigned type, end, lower, upper;
 } rows[ROWS] = {
-    { 0, 6, 0, 2 }, { 1, 12, 6, NO_UPPER }, { 1, 16, 8, NO_UPPER }, { 2, 14, 2, NO_UPPER }, { 3, 16, 3, NO_UPPER },
+    { 0, 6, 0, 2 },
+    { 1, 12, 6, NESTED_GCC_NO_UPPER },
+    { 1, 16, 8, NESTED_GCC_NO_UPPER },
+    { 2, 14, 2, NESTED_GCC_NO_UPPER },
+    { 3, 16, 3, NESTED_GCC_NO_UPPER },
 };
 
 static uint8_t book[BOOK_BYTES];

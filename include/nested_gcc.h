@@ -2,23 +2,29 @@
  * nested_gcc.h: the proved filter of order books, for C99 and C++ on x86-64 Linux.
  * Link with libnested_gcc.a, which `rt staticlib nested_gcc` builds.
  *
+ * docs/SPECIFICATION.md has the full text of what is said here: 1 Words and numbers, 2 The book, 3 Closing,
+ * 4 Settling and plans, 5 The session, 6 Walls, 7 Entries, 8 Refusals, 9 Worked examples, 10 The program planrun.
+ * docs/ASSUMPTIONS.md lists what a host must keep.
+ *
  * nested_gcc_check    whether the bytes are a good book
  * nested_gcc_close    the bounds that follow from a book's rows, or that the book is dead
  * nested_gcc_settle   the types that each slot may still have, or that the book is dead
  * nested_gcc_session  a list of calls on a settled book: decisions, marks to go back to, and questions
  *
- * A book, in little-endian numbers: slots n (2 bytes, 1 to 256), types k (1 byte, 1 to 32), a byte 0,
- * row count r (2 bytes, 0 to 1024), offset of the masks (2 bytes, 12), offset of the rows (2 bytes,
- * 12 + 4n), length (2 bytes, 12 + 4n + 8r); then n masks of 4 bytes, bit v saying that type v may go
- * in that slot; then r rows of 8 bytes: type (1 byte), a byte 0, end, lower, upper (2 bytes each).
- * A row says that the first `end` slots have at least `lower` and at most `upper` of the type; upper
- * 65535 means no upper bound.
+ * A book, in little-endian numbers: slots n (2 bytes, 1 to NESTED_GCC_SLOTS_MOST), types k (1 byte, 1 to
+ * NESTED_GCC_TYPES_MOST), a byte 0, row count r (2 bytes, 0 to NESTED_GCC_ROWS_MOST), offset of the masks
+ * (2 bytes, 12), offset of the rows (2 bytes, 12 + 4n), length (2 bytes, 12 + 4n + 8r); then n masks of
+ * 4 bytes, bit v saying that type v may go in that slot; then r rows of 8 bytes: type (1 byte), a byte 0,
+ * end, lower, upper (2 bytes each). A row says that the first `end` slots have at least `lower` and at most
+ * `upper` of the type; upper NESTED_GCC_NO_UPPER means no upper bound.
  *
  * For every function here:
  * - There is no premise on the bytes. For each book and list of calls in readable and each output in
  *   writable memory the answer is defined, and follows from the book, the calls and the outputs' lengths
  *   alone.
- * - A pointer is never NULL, not even with length 0; with length 0 it may be any other pointer.
+ * - A pointer may be NULL, or any other, when its length is 0: nothing is read or written through it. So an
+ *   empty std::vector may be passed by its data() and size(). This is tested, not proved, by
+ *   host/nested-gcc/tests/null.rs and examples/empty.c. With another length a pointer is not NULL.
  * - Nothing is kept between calls and nothing is allocated, so any number of threads may call at once.
  * - A book is only read, and only during the call, and so is a list of calls. No thread may change them
  *   meanwhile. Functions that run at once may share them.
@@ -27,8 +33,12 @@
  *   thread may use it meanwhile.
  * - Lengths are in bytes. An output's elements stand little-endian and need no alignment; a trailing part
  *   of an element neither counts nor is written.
- * - The stack that a call needs is told for each function. It is measured, not proved: by
- *   host/nested-gcc/tests/stack.rs, which fails above the figure named there.
+ * - The comment of each function says how much stack a call needs, from its caller's frame down. That is
+ *   measured, not proved, by host/nested-gcc/tests/stack.rs, which fails above the figure named there. A thread's
+ *   own start takes some 5 KiB more (glibc). nested_gcc_session needs more on every good book, and
+ *   nested_gcc_settle on some, than the 128 KiB that some C libraries (musl) give a thread by default. A thread
+ *   that calls them is given 6 MiB, which suffices for every book, or 512 KiB if the host knows its books
+ *   (pthread_attr_setstacksize). docs/ASSUMPTIONS.md, "Stack", has the figures in one table.
  */
 #ifndef NESTED_GCC_H
 #define NESTED_GCC_H
@@ -39,6 +49,13 @@
 #ifdef __cplusplus
 extern "C" {
 #endif
+
+/* The sizes of a good book. */
+#define NESTED_GCC_SLOTS_MOST 256u  /* the most slots; the least is 1 */
+#define NESTED_GCC_TYPES_MOST 32u   /* the most types; the least is 1 */
+#define NESTED_GCC_ROWS_MOST 1024u  /* the most rows; there may be none */
+#define NESTED_GCC_NO_UPPER 65535u  /* the upper of a row that has no upper bound */
+#define NESTED_GCC_BOOK_BYTES 9228u /* the most bytes of a book: 12 + 4 * 256 + 8 * 1024 */
 
 /* nested_gcc_check's answer for a good book. */
 #define NESTED_GCC_GOOD 0u
@@ -119,11 +136,15 @@ uint32_t nested_gcc_close(const uint8_t *book, size_t book_len,
  *     is not touched.
  * Bytes past the n elements stay as they are.
  *
- * Stack: 93 KiB, and up to 704 bytes for each strike that is nested in another. The deepest nesting found, a
- * chain of 255 strikes, needs 261 KiB in all; 320 KiB is what the test holds. A strike takes a type out of a
- * mask before it goes deeper, so no book nests more than 8192 of them: 6 MiB suffices for every book.
+ * Stack: 93 KiB on a good book, and up to 672 bytes for each strike that is nested in another. The most of 1000
+ * random books of 256 slots was 128 KiB. The deepest nesting found, a chain of 254 strikes, needs 260 KiB in all;
+ * 320 KiB is what the test holds. A strike takes a type out of a mask before it goes deeper, so no book nests more
+ * than 8192 of them: 6 MiB suffices for every book.
  */
 uint32_t nested_gcc_settle(const uint8_t *book, size_t book_len, uint8_t *masks, size_t masks_len);
+
+/* The most marks of a session that are open at a time. */
+#define NESTED_GCC_MARKS_MOST 256u
 
 /* The kinds of calls in a session. */
 #define NESTED_GCC_ASSIGN 1u      /* cut the slot to that type */
@@ -137,7 +158,7 @@ uint32_t nested_gcc_settle(const uint8_t *book, size_t book_len, uint8_t *masks,
 /* The first word of the answer to a call; what the second is. */
 #define NESTED_GCC_CALL_LIVE 0u  /* a decision; how many types were struck from the masks */
 #define NESTED_GCC_CALL_DEAD 1u  /* a decision that no stable list is within; 0 */
-#define NESTED_GCC_CALL_VALUE 2u /* what was asked for */
+#define NESTED_GCC_CALL_VALUE 2u /* a show or a number of walls; the mask or the number */
 #define NESTED_GCC_CALL_DONE 3u  /* a mark or a back; 0 */
 /* Refusals of the one call; 0. */
 #define NESTED_GCC_CALL_KIND (NESTED_GCC_REFUSED + 11u)      /* kind 0 or from 8 up */
@@ -145,7 +166,7 @@ uint32_t nested_gcc_settle(const uint8_t *book, size_t book_len, uint8_t *masks,
 #define NESTED_GCC_CALL_TYPE (NESTED_GCC_REFUSED + 13u)      /* type k or more */
 #define NESTED_GCC_NO_OPEN_MARK (NESTED_GCC_REFUSED + 14u)   /* back with no open mark */
 #define NESTED_GCC_WHILE_DEAD (NESTED_GCC_REFUSED + 15u)     /* kind 1, 2 or 3 while dead */
-#define NESTED_GCC_TOO_MANY_MARKS (NESTED_GCC_REFUSED + 16u) /* mark with 256 open */
+#define NESTED_GCC_TOO_MANY_MARKS (NESTED_GCC_REFUSED + 16u) /* mark with NESTED_GCC_MARKS_MOST open */
 
 /* The most bytes of calls that nested_gcc_session takes, 4 * 4096, and of answers that it writes. */
 #define NESTED_GCC_CALLS_BYTES 16384u
@@ -157,9 +178,9 @@ uint32_t nested_gcc_settle(const uint8_t *book, size_t book_len, uint8_t *masks,
  * slot, the walls the type. For each call two elements of 32 bits are written to answers, those of call i at
  * elements 2i and 2i + 1. At the end the n masks are written, elements of 32 bits, that of slot s at element s.
  *
- * A session has masks, is live or dead, and has up to 256 open marks, each with the masks that it saved. It opens
- * live with the masks of nested_gcc_settle. If the book is dead it opens dead, every mask is 0, and so is every
- * number of walls.
+ * A session has masks, is live or dead, and has up to NESTED_GCC_MARKS_MOST open marks, each with the masks that it
+ * saved. It opens live with the masks of nested_gcc_settle. If the book is dead it opens dead, every mask is 0, and
+ * so is every number of walls.
  * - Assign and remove are decisions: they cut the slot's mask. If a stable list (see nested_gcc_settle) lies within
  *   the cut masks, the largest becomes the masks, and struck is how many ones the masks lost. If there is none the
  *   session is dead and the masks stay as they were before. So assigning a type that the slot lacks is dead, and
@@ -184,9 +205,9 @@ uint32_t nested_gcc_settle(const uint8_t *book, size_t book_len, uint8_t *masks,
  *     is good.
  * Bytes past the elements written stay as they are.
  *
- * Stack: 126 KiB, and as for nested_gcc_settle up to 704 bytes for each strike that is nested in another. The
- * deepest nesting found needs 261 KiB in all; 512 KiB is what the test holds, and 6 MiB suffices for every book
- * and list.
+ * Stack: 126 KiB on a good book, and as for nested_gcc_settle up to 672 bytes for each strike that is nested in
+ * another. The most of 1000 random books of 256 slots with lists of decisions was 161 KiB. The deepest nesting found
+ * needs 261 KiB in all; 512 KiB is what the test holds, and 6 MiB suffices for every book and list.
  */
 uint32_t nested_gcc_session(const uint8_t *book, size_t book_len,
                             const uint8_t *calls, size_t calls_len,
