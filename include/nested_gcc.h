@@ -35,10 +35,11 @@
  *   of an element neither counts nor is written.
  * - The comment of each function says how much stack a call needs, from its caller's frame down. That is
  *   measured, not proved, by host/nested-gcc/tests/stack.rs, which fails above the figure named there. A thread's
- *   own start takes some 5 KiB more (glibc). nested_gcc_session needs more on every good book, and
- *   nested_gcc_settle on some, than the 128 KiB that some C libraries (musl) give a thread by default. A thread
- *   that calls them is given 6 MiB, which suffices for every book, or 512 KiB if the host knows its books
- *   (pthread_attr_setstacksize). docs/ASSUMPTIONS.md, "Stack", has the figures in one table.
+ *   own start takes some 5 KiB more (glibc). The 128 KiB that some C libraries (musl) give a thread by default
+ *   are too few: nested_gcc_session leaves less than 3 of them on any good book, and on some books it and
+ *   nested_gcc_settle need twice as much. A host gives a thread that calls them 6 MiB, which suffices for every
+ *   book, or 512 KiB if it knows its books (pthread_attr_setstacksize). docs/ASSUMPTIONS.md, "Stack", has the
+ *   figures in one table.
  */
 #ifndef NESTED_GCC_H
 #define NESTED_GCC_H
