@@ -31,12 +31,12 @@
  * - An output is written only during the call, and only where the function's comment says so. What it
  *   holds before plays no part. It may not overlap the book, the calls or another output, and no other
  *   thread may use it meanwhile.
- * - Lengths are in bytes. An output's elements stand little-endian and need no alignment; a trailing part
- *   of an element neither counts nor is written.
+ * - Lengths are in bytes. An output's elements are little-endian and need no alignment; a trailing part
+ *   of an element neither counts nor is written. A buffer is lent: it is the function's for the call alone.
  * - The comment of each function says how much stack a call needs, from its caller's frame down. That is
  *   measured, not proved, by host/nested-gcc/tests/stack.rs, which fails above the figure named there. A thread's
  *   own start takes some 5 KiB more (glibc). The 128 KiB that some C libraries (musl) give a thread by default
- *   are too few: nested_gcc_session leaves less than 3 of them on any good book, and on some books it and
+ *   are too few: unless it refuses, nested_gcc_session leaves less than 3 of them, and on some books it and
  *   nested_gcc_settle need twice as much. A host gives a thread that calls them 6 MiB, which suffices for every
  *   book, or 512 KiB if it knows its books (pthread_attr_setstacksize). docs/ASSUMPTIONS.md, "Stack", has the
  *   figures in one table.
