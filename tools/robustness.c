@@ -28,8 +28,8 @@
 
 #define PAGE 4096u
 #define GUARD 256u
-#define BOOK_ROOM (3 * PAGE)     /* the longest good book has 9228 bytes */
-#define CALLS_ROOM (5 * PAGE)    /* the longest good list has 16384 bytes */
+#define BOOK_ROOM (3 * PAGE)     /* more than NESTED_GCC_BOOK_BYTES */
+#define CALLS_ROOM (5 * PAGE)    /* more than NESTED_GCC_CALLS_BYTES */
 #define TABLE_ROOM (5 * PAGE)    /* NESTED_GCC_TABLE_BYTES and more */
 #define ANSWERS_ROOM (9 * PAGE)  /* NESTED_GCC_ANSWERS_BYTES and more */
 
@@ -412,9 +412,9 @@ static void put_rows(uint8_t *book, const uint8_t *plan, unsigned n, unsigned k,
         unsigned type = below(k), end = between(1, n), count = 0, slack = below(3), lower, upper;
         for (i = 0; i < end; i++) count += plan[i] == type;
         lower = count > slack ? count - slack : 0;
-        upper = below(4) == 0 ? 65535 : count + below(3);
+        upper = below(4) == 0 ? NESTED_GCC_NO_UPPER : count + below(3);
         if (!near) lower = below(end + 2), upper = below(end + 2);
-        put_row(book, n, row, type, end, lower < 256 ? lower : 256, upper < 256 || upper == 65535 ? upper : 256);
+        put_row(book, n, row, type, end, lower < 256 ? lower : 256, upper < 256 || upper == NESTED_GCC_NO_UPPER ? upper : 256);
     }
 }
 
@@ -654,7 +654,7 @@ static void repair_book(struct input *input) {
     for (i = 0; i < r; i++) {
         uint8_t *row = input->book + 12 + 4 * n + 8 * i;
         unsigned end = 1 + half(row, 1) % n, upper = row[6] % (n + 2);
-        put_row(input->book, n, i, row[0] % k, end, row[4] % (n + 2), upper > n ? 65535 : upper);
+        put_row(input->book, n, i, row[0] % k, end, row[4] % (n + 2), upper > n ? NESTED_GCC_NO_UPPER : upper);
     }
 }
 

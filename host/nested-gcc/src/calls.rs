@@ -48,17 +48,17 @@ impl Calls {
         self.push(4, 0, 0)
     }
 
-    /// Kind 5: asks for the slot's mask.
+    /// Kind 5: reads the slot's mask.
     pub fn show(&mut self, slot: u16) -> &mut Calls {
         self.push(5, 0, slot)
     }
 
-    /// Kind 6: asks for the number of upper walls of the type.
+    /// Kind 6: counts the upper walls of the type.
     pub fn upper_walls(&mut self, board_type: u8) -> &mut Calls {
         self.push(6, board_type, 0)
     }
 
-    /// Kind 7: asks for the number of lower walls of the type.
+    /// Kind 7: counts the lower walls of the type.
     pub fn lower_walls(&mut self, board_type: u8) -> &mut Calls {
         self.push(7, board_type, 0)
     }

@@ -232,7 +232,7 @@ pub fn settle_into(book: &[u8], masks: &mut [u8]) -> Result<Verdict, Refusal> {
     verdict("nested_gcc_settle", sys::settle(book, masks))
 }
 
-/// n of a good book, which stands in its bytes 0 and 1.
+/// n of a good book: its bytes 0 and 1.
 fn slots(book: &[u8]) -> usize {
     usize::from(u16::from_le_bytes([book[0], book[1]]))
 }

@@ -21,7 +21,7 @@ pub enum Answer {
     /// An assign or a remove: no stable list lies within the cut masks. The masks stay, and until a back the
     /// session is dead.
     Dead,
-    /// The mask or the number of walls that was asked for.
+    /// A show or a count of walls: the mask, or how many.
     Value(u32),
     /// A mark or a back.
     Done,
@@ -122,7 +122,7 @@ pub fn session(book: &[u8], calls: &[u8]) -> Result<Session, Refusal> {
 /// Makes the calls into the caller's bytes: two elements of 32 bits for each call, as [`Answer::words`], and n
 /// elements of 32 bits for the last masks; all little-endian.
 ///
-/// Live or dead tells how the session opened. What lies past the elements written stays as it is, also a
+/// Live or dead is how the session opened. What lies past the elements written stays as it is, also a
 /// trailing part of an element. A refusal writes nothing. [`Refusal::OutputTooShort`] comes after the refusals
 /// of [`session`]. No list needs more than [`ANSWERS_BYTES`] and [`MASKS_BYTES`].
 ///

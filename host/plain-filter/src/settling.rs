@@ -12,7 +12,7 @@ pub struct Settling {
     pub fixes: usize,
     /// How many types were struck from a mask because B = upper.
     pub strikes: usize,
-    /// How often all rules were asked, up to the time when none cut a mask, or one was broken.
+    /// How often all rules were applied, up to the time when none cut a mask, or one was broken.
     pub passes: usize,
 }
 
@@ -27,7 +27,7 @@ pub enum Death {
     TooMany,
 }
 
-/// Settles the book: each rule asked in turn until a whole pass cuts nothing. Only what every stable list
+/// Settles the book: each rule applied in turn until a whole pass cuts nothing. Only what every stable list
 /// within the masks lacks is cut, so the book is dead as soon as a rule is broken.
 pub fn settle(book: &Book) -> Settling {
     let mut settling = Settling { masks: Err(Death::Closing), fixes: 0, strikes: 0, passes: 0 };
