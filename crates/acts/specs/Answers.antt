@@ -5,14 +5,17 @@
 --                          refuses c
 --   Deciding, Marking, Backing, Counting   what the calls need that no number refuses
 --   Strikes n trail from to   the trail has a strike at each height from `from` up to `to`
+--   OnesLost n trail from to x   x is the ones of the masks before less those after, whatever masks the strikes from height `from` up to `to` lead
+--                          between
 -- Assumes nothing.
 use mathlib.Core.Path.{_≡_}
 use mathlib.Core.List.{List}
-use Prim.Native.Nat.{ℕ, _+_, _*_, _≤_, _<_}
+use Prim.Native.Nat.{ℕ, _+_, _-_, _*_, _≤_, _<_}
 use lib.ListN.{length}
+use Rattle.domains.specs.Masks.{total}
 use Rattle.closing_model.specs.Table.{Table}
 use Rattle.filter_model.specs.Open.{cellsSize}
-use Rattle.filter_model.specs.Trail.{valueAt}
+use Rattle.filter_model.specs.Trail.{valueAt, Restores}
 use Rattle.session_model.specs.Calls as Calls
 use Rattle.session_model.specs.Machine.{act}
 use Rattle.session_model.specs.Standing as Model
@@ -47,6 +50,11 @@ pub record Strikes (n : ℕ) (trail : List ℕ) (from to : ℕ) : Type 0 where
   -- a height fits 16 bits, and a value the mask
   pub heights-fit : length trail < 65536
   pub values-fit : (i : ℕ) → from ≤ i → i < to → valueAt n trail i < 32
+
+-- taken back, the strikes lead from the masks after them to those before
+pub record OnesLost (n : ℕ) (trail : List ℕ) (from to x : ℕ) : Type 0 where
+  pub difference : (k : ℕ) (before after cells cells′ : List ℕ) → Restores n k trail from (to - from) after cells′ before cells
+      → x ≡ total before - total after
 
 pub record Marking (heights : List ℕ) (session : Session) : Type 0 where
   pub live : session .standing ≡ Live

@@ -1,17 +1,17 @@
 // The parts of a decision: the slot cut by an assign or a remove, with all that follows, and what that struck. Nothing is refused here. The contracts cite
-// filter's `specs/Filtered.antt`, and `CutOf` and `Strikes` of acts.
+// filter's `specs/Filtered.antt`, and `CutOf`, `Strikes` and `OnesLost` of acts.
 use filter::fix;
 use filter::strike;
 use outcomes::Outcome;
 use outcomes::told;
 ghost use mathlib.Core.Path.{_≡_};
-ghost use Prim.Native.Nat.{_+_, _-_, _*_, _<_};
+ghost use Prim.Native.Nat.{_+_, _*_, _<_};
 ghost use lib.ListN.{length};
 ghost use Rattle.filter_model.specs.State.{Ready};
 ghost use Rattle.filter_model.specs.Trail.{valueAt};
 ghost use Rattle.filter.specs.Filtered.{Filtered};
 ghost use Rattle.acts.specs.Given.{CutOf};
-ghost use Rattle.acts.specs.Answers.{Strikes};
+ghost use Rattle.acts.specs.Answers.{Strikes, OnesLost};
 
 // Cuts the slot to v, or strikes v from it, with all that follows.
 pub fn cut_slot(
@@ -35,10 +35,10 @@ pub fn cut_slot(
     told(strike(masks, cells, trail, n, k, top, slot, v))
 }
 
-// How many values were struck while the trail grew from height `from` to height `to`: the ones of what each strike took out.
+// The ones of the masks at height `from` of the trail less those at height `to`: what each strike between took out is counted.
 pub fn struck(trail: &[u8], n: usize, from: usize, to: usize) -> u32
     requires { ⌜ Strikes n (now trail) from to ⌝ }
-    ensures { λ r. ⌜ r ≡ to - from ⌝ }
+    ensures { λ r. ⌜ OnesLost n (now (trail .entry)) from to r ⌝ }
 {
     let mut count: u32 = 0;
     for i in from..to {

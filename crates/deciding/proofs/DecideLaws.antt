@@ -20,7 +20,7 @@ use Rattle.session_model.specs.State as Machine
 use Rattle.session_model.specs.State.{Rules, State}
 use Rattle.acts.specs.Given.{decisionOf, CutOf, standingOf}
 use Rattle.acts.specs.Represents.{Represents}
-use Rattle.acts.specs.Answers.{Answered, Acts, Deciding, Strikes}
+use Rattle.acts.specs.Answers.{Answered, Acts, Deciding, Strikes, OnesLost}
 use Rattle.acts.specs.declared.Session.{Session}
 use Rattle.acts.specs.declared.Standing.the-variants.{Live, Dead}
 use Rattle.acts.proofs.RepresentsLaws.{live-working}
@@ -123,10 +123,10 @@ module _ {masks cells trail heights : List ℕ} {n k : ℕ} {session : Session} 
   module _ (i : ℕ) (assign : Bool) {masks′ cells′ trail′ : List ℕ} {h : ℕ} where
     pub decide-live : {count : ℕ}
         → Filtered n k (CutOf assign slot v) (CutOf assign slot v) masks cells trail (session .top) masks′ cells′ trail′ (Outcomes.Live h)
-        → count ≡ h - session .top
+        → OnesLost n trail′ (session .top) h count
         → Acts n k i (Calls.decide (decisionOf assign slot v)) session masks cells trail heights masks′ cells′ trail′ heights
         (record { session = record { standing = Live; top = h; marks = session .marks }; first = 0; second = count })
-    decide-live {count} done count-is =
+    decide-live {count} done lost =
         record {
           does = λ T R S represents.
               let d = decisionOf assign slot v in
@@ -136,7 +136,7 @@ module _ {masks cells trail heights : List ℕ} {n k : ℕ} {session : Session} 
               let settles : R .settle (cut d (S .masks)) ≡ some masks′ = rw (represents .masks-are) (working .rules .settle (cut d masks) ∙ cuts) in
               let struck : count ≡ R .ones (S .masks) - R .ones masks′ =
               rw (represents .masks-are, represents .suits .ones masks, represents .suits .ones masks′)
-              (omega (arith, count-is, done .moved .height, done .moved .trailed .up)) in
+              (lost .difference k masks masks′ cells cells′ (done .moved .trailed .back)) in
               live-answered represents (deciding .live) i d count done settles struck;
         }
 

@@ -1,10 +1,10 @@
 -- `cutting::struck` meets its contract. The invariant: `count` is how many strikes were passed. The measure is how many are left. One strike
--- more: `struck-next`. Assumes nothing.
+-- more: `struck-next`. So many ones the masks have lost: `ones-lost`. Assumes nothing.
 use mathlib.Core.Path.{_≡_}
 use Prim.Native.Nat.{_-_, _≤_}
 use native.Mathlib.Omega.{arith}
 use borrow.Author.Needs.{needs}
-use Rattle.cutting.proofs.StruckLaws.{struck-next}
+use Rattle.cutting.proofs.StruckLaws.{struck-next, ones-lost}
 use Rattle.cutting.proofs.struck.Statement.{statement}
 use Rattle.cutting.proofs.struck.Tie as tie
 
@@ -60,7 +60,7 @@ loop-again c =
 returns : tie.Need-returns Inv-loop μ-loop
 returns c =
     let last : c .before .loop .i ≡ c .before .before .before .args .to = omega (arith, c .loop-test .left, c .before .loop .inv .1) in
-    rw last at (c .before .loop .inv .2)
+    ones-lost _ _ _ _ _ (rw last at (c .before .loop .inv .2))
 
 pub struck-spec : {M : Type 1} → statement M
 struck-spec =
