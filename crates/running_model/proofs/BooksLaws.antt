@@ -1,6 +1,6 @@
--- The laws of `specs/BookRan.antt`: a session opened live (`opens-live`) or dead (`opens-dead`), a list run from there (`book-ran`), and what it
--- says of the walls: after the list the right ends that the cells hold are the walls of document 01's formula, on the book's closed table and the
--- machine's masks (`bookran-walls`). No contract cites this file. Assumes nothing.
+-- The laws of `specs/BookRan.antt`: a session opened live (`opens-live`) or dead (`opens-dead`), and a list run from there (`book-ran`); by the way
+-- the laws of `specs/EngineDemand.antt`: the machine's claim holds of the engine, since its cells mirror the book's closed table and its masks
+-- (`engine-demand3`). No contract cites this file. Assumes nothing.
 use mathlib.Core.Path.{_≡_, refl, sym, ap, _∙_, subst, subst⁻¹}
 use mathlib.Core.Bool.{Bool, true, false, not}
 use mathlib.Core.Logic.{_↔_}
@@ -8,40 +8,40 @@ use mathlib.Core.List.{List, [], _∷_}
 use mathlib.Core.Option.{Option, none, some}
 use Prim.Native.Nat.{ℕ, suc, _≤_, _<_}
 use native.Mathlib.Omega.{arith}
-use lib.ListN.{length, getD, replicate}
+use lib.ListN.{length, replicate}
 use Rattle.book.specs.Layout as Layout
 use Rattle.closing_model.specs.Table.{Table, view}
 use Rattle.settling_model.specs.Book.{closedBook, settledBook}
 use Rattle.settling_model.specs.Settling.{settling}
-use Rattle.settling_model.specs.Stable.{tableBounds}
+use Rattle.settling_model.specs.Stable.{Bound, tableBounds}
 use Rattle.settling_model.proofs.BookLaws.{closedBook-loosest}
 use Rattle.settling_model.proofs.SettlingLaws.{settling-largest}
-use Rattle.segments_model.specs.Cells.{Stands}
-use Rattle.segments_model.specs.Lines.{cornerOf, slackOf}
-use Rattle.segments_model.specs.Links.{gaps}
+use Rattle.settling_model.proofs.TableBoundsLaws.{tableBounds-same}
 use Rattle.segments_model.proofs.SlackLaws.{segments-stands, segments-holds}
-use Rattle.filter_model.specs.Mirror.{Mirror, cellsOf}
+use Rattle.filter_model.specs.Mirror.{Mirror}
 use Rattle.outcomes.specs.declared.Outcome.{Outcome}
 use Rattle.outcomes.specs.declared.Outcome.the-variants as Outcomes
 use Rattle.book_opening.specs.State.{BookState, OpensBook}
-use Rattle.session_model.specs.BookRun.{rulesOf, stateAfter, repliesOf, standingAfter}
+use Rattle.session_model.specs.BookRun.{rulesOf, stateAfter, repliesOf, forceAfter, standingAfter}
 use Rattle.session_model.specs.Calls as Calls
 use Rattle.session_model.specs.Calls.{Call, callsOf}
+use Rattle.session_model.specs.Decisions.{LargestUnder, UnstableUnder}
+use Rattle.session_model.specs.Demand.{answerTo, boundsOf, Demand3}
 use Rattle.session_model.specs.Machine.{opened, run, runs}
 use Rattle.session_model.specs.State as Machine
 use Rattle.session_model.specs.State.{Rules, State, Reply}
 use Rattle.session_model.specs.Standing as Model
 use Rattle.session_model.specs.Standing.{stand, standFrom}
-use Rattle.session_model.specs.Walls.{boundLine}
-use Rattle.session_model.proofs.BookRunLaws.{rulesOf-settle, rulesOf-closed, rulesOf-standing}
+use Rattle.session_model.specs.Walls.{Wall}
+use Rattle.session_model.proofs.BookRunLaws.{rulesOf-settle, rulesOf-closed, rulesOf-standing, settled-closed}
 use Rattle.session_model.proofs.DeadOpeningLaws.{dead-opening}
 use Rattle.session_model.proofs.DemandLaws.{demand3}
 use Rattle.session_model.proofs.RunLaws.{opened-live, opened-dead}
 use Rattle.running_model.specs.BookRan.{tableOf, bookTable, openedRules, openedState, opensLive, Openable, Opens, BookRan}
+use Rattle.running_model.specs.EngineDemand.{RightEnd, EngineDemand3}
 use Rattle.acts.specs.Given.{standingOf, isShut}
 use Rattle.acts.specs.Represents.{Room, Working, Represents, Running}
 use Rattle.running_model.specs.Runs.{Runs}
-use Rattle.running_model.specs.declared.Ended.{Ended}
 use Rattle.acts.specs.declared.Session.{Session}
 use Rattle.acts.specs.declared.Standing.{Standing}
 use Rattle.acts.specs.declared.Standing.the-variants.{OpenedDead, Live, Dead}
@@ -191,6 +191,39 @@ run-opened b M limit calls standing settles is =
     shut-model standing ∙ ap shutModel is
     ∙ standFrom-opened (Model.opening (settledBook b)) 0 calls (repliesOf b limit calls) (ap (λ (o : Option (List ℕ)). shutModel (Model.opening o)) settles)
 
+-- ---- EngineDemand3
+mirror-walls : {n k : ℕ} {T : Table} {M cells : List ℕ} → Mirror n k T M cells → (kind : Bool) (v t : ℕ) → v < k → 0 < t → t ≤ n
+    → RightEnd kind n k v cells t ↔ Wall kind n T M v t
+mirror-walls mirror true v t v<k from upto =
+    let row = mirror .rows true v v<k in
+    (segments-stands row t from upto, segments-holds row t from upto)
+mirror-walls mirror false v t v<k from upto =
+    let row = mirror .rows false v v<k in
+    (segments-stands row t from upto, segments-holds row t from upto)
+
+-- the machine's claim, over the engine's masks, and the cells that mirror the closed table and them
+engine-demand3 : (b calls : List ℕ) (limit : ℕ) (L U masks cells : List ℕ) → closedBook b ≡ some (L, U) → Demand3 b limit (callsOf calls)
+    → stateAfter b limit (callsOf calls) .masks ≡ masks → Mirror (Layout.slots b) (Layout.values b) (view L U) masks cells
+    → EngineDemand3 b calls limit masks cells
+engine-demand3 b calls limit L U masks cells closes claim masks-are mirror =
+    let force = forceAfter b limit (callsOf calls) in
+    let one = closedBook-loosest b L U closes in
+    let other = claim .loosest in
+    let same : boundsOf b (claim .table) ≡ boundsOf b (view L U) =
+    tableBounds-same (Layout.slots b) (claim .table) (view L U) (Layout.values b) (other .loosest (view L U) (one .closed) (one .within))
+    (one .loosest (claim .table) (other .closed) (other .within)) in
+    record {
+      table = view L U;
+      loosest = one;
+      largest =
+          subst (λ (N : List ℕ). LargestUnder (boundsOf b (view L U)) (Layout.masks b) force N) masks-are
+          (subst (λ (bs : List Bound). LargestUnder bs (Layout.masks b) force (stateAfter b limit (callsOf calls) .masks)) same (claim .largest));
+      walls = mirror-walls mirror;
+      dies = λ before rest d at not-refused.
+          subst (λ (bs : List Bound). (answerTo b limit (callsOf calls) before ≡ Machine.dead) ↔ UnstableUnder bs (Layout.masks b) (d ∷ forceAfter b limit before)) same
+          (claim .dies before rest d at not-refused);
+    }
+
 module _ {b m c t : List ℕ} {fresh : Session} (opens : Opens b m c t fresh) {n k : ℕ} (n-is : n ≡ Layout.slots b) (k-is : k ≡ Layout.values b)
     (heights : List ℕ) where
   opened-represents : Represents (bookTable b) (openedRules b (length heights)) (openedState b (length heights)) m c t heights n k fresh
@@ -215,33 +248,14 @@ module _ {b m c t : List ℕ} {fresh : Session} (opens : Opens b m c t fresh) {n
       record {
         live = ap not shut-is ∙ shut-live (fresh .standing) (settledBook b) (opens .standing);
         represents = represents;
-        mirror = λ L U M closes settles.
-            subst (λ (T : Table). Mirror (Layout.slots b) (Layout.values b) T m′ c′) (bookTable-closed b L U closes)
-            (opened-working represents (run-opened b M limit (callsOf calls) (session .standing) settles standing) .mirror);
+        masks-are = sym (represents .masks-are);
         words = done .words;
         standing = standing;
+        engine = λ M settles.
+            let closes = settled-closed b M settles in
+            let working = opened-working represents (run-opened b M limit (callsOf calls) (session .standing) settles standing) in
+            engine-demand3 b calls limit (closes .0) (closes .1) m′ c′ (closes .2) (demand3 b limit M settles (callsOf calls)) (represents .masks-are)
+            (subst (λ (T : Table). Mirror (Layout.slots b) (Layout.values b) T m′ c′) (bookTable-closed b (closes .0) (closes .1) (closes .2)) (working .mirror));
         demand = λ M settles. demand3 b limit M settles (callsOf calls);
         opened-dead = λ dies. dead-opening b limit dies (callsOf calls);
       }
-
--- ---- the walls
--- t is a wall of the formula: Stands, for the corners and the slack of the value's line on the masks M
-abbrev pub Wall : Bool → ℕ → Table → List ℕ → ℕ → ℕ → Type 0
-Wall kind n T M v t = Stands n (cornerOf kind n (boundLine kind n T v)) (slackOf kind (boundLine kind n T v) M v) t
-
-mirror-walls : {n k : ℕ} {T : Table} {M cells : List ℕ} → Mirror n k T M cells → (kind : Bool) (v t : ℕ) → v < k → 0 < t → t ≤ n
-    → (0 < getD (gaps (cellsOf kind n k v cells)) t 0) ↔ Wall kind n T M v t
-mirror-walls mirror true v t v<k from upto =
-    let row = mirror .rows true v v<k in
-    (segments-stands row t from upto, segments-holds row t from upto)
-mirror-walls mirror false v t v<k from upto =
-    let row = mirror .rows false v v<k in
-    (segments-stands row t from upto, segments-holds row t from upto)
-
-pub bookran-walls : {b calls : List ℕ} {limit : ℕ} {answers answers′ masks cells trail heights : List ℕ} {r : Ended}
-    → BookRan b calls limit answers answers′ masks cells trail heights r → (L U M : List ℕ) → closedBook b ≡ some (L, U) → settledBook b ≡ some M
-    → (kind : Bool) (v t : ℕ) → v < Layout.values b → 0 < t → t ≤ Layout.slots b
-    → (0 < getD (gaps (cellsOf kind (Layout.slots b) (Layout.values b) v cells)) t 0)
-    ↔ Wall kind (Layout.slots b) (view L U) (stateAfter b limit (callsOf calls) .masks) v t
-bookran-walls ran L U M closes settles kind v t v<k from upto =
-    rw (ran .represents .masks-are) (mirror-walls (ran .mirror L U M closes settles) kind v t v<k from upto)

@@ -5,10 +5,9 @@
 --   Openable             room for the state of a good book
 --   Opens b .. r         the slices and the session r stand for the machine at its opening, by the book's closed table
 --   BookRunnable         room for a book's run
---   BookRan b calls ..   after the list the slices stand for the machine's last state, by the book's closed table: the masks are the machine's, and
---                        after a live opening the cells mirror that table and these masks, so that the walls standing are those of the formula
---                        (`bookran-walls`); the answers are the machine's words; the standing is the machine's; and of this machine demand 3
---                        holds, for a book that opens live and for one that opens dead
+--   BookRan b calls ..   after the list the slices stand for the machine's last state, by the book's closed table: the masks are the machine's; the
+--                        answers are the machine's words; the standing is the machine's; after a live opening demand 3 holds of the engine's masks
+--                        and cells (`EngineDemand3`) and of this machine (`Demand3`); and for a book that opens dead `DeadOpening` holds
 -- Assumes nothing.
 use mathlib.Core.Path.{_≡_}
 use mathlib.Core.Bool.{Bool, true, false}
@@ -20,7 +19,6 @@ use Rattle.book.specs.Layout as Layout
 use Rattle.closing_model.specs.Table.{Table, view}
 use Rattle.closing.specs.Close.{overlay}
 use Rattle.settling_model.specs.Book.{closedBook, settledBook}
-use Rattle.filter_model.specs.Mirror.{Mirror}
 use Rattle.book_opening.specs.State.{StateRoom}
 use Rattle.session_model.specs.BookRun.{rulesOf, stateAfter, repliesOf, standingAfter}
 use Rattle.session_model.specs.Calls.{callsOf}
@@ -30,6 +28,7 @@ use Rattle.session_model.specs.Standing.{opening}
 use Rattle.session_model.specs.State.{Rules, State, wordsOf}
 use Rattle.acts.specs.Given.{standingOf}
 use Rattle.acts.specs.Represents.{Represents}
+use Rattle.running_model.specs.EngineDemand.{EngineDemand3}
 use Rattle.running_model.specs.declared.Ended.{Ended}
 use Rattle.acts.specs.declared.Session.{Session}
 
@@ -68,10 +67,9 @@ pub record BookRan (b calls : List ℕ) (limit : ℕ) (answers answers′ masks 
   pub live : r .live ≡ opensLive (settledBook b)
   pub represents : Represents (bookTable b) (openedRules b limit) (stateAfter b limit (callsOf calls)) masks cells trail heights (Layout.slots b)
       (Layout.values b) (r .session)
-  -- the walls standing
-  pub mirror : (L U M : List ℕ) → closedBook b ≡ some (L, U) → settledBook b ≡ some M
-      → Mirror (Layout.slots b) (Layout.values b) (view L U) masks cells
+  pub masks-are : masks ≡ stateAfter b limit (callsOf calls) .masks
   pub words : answers′ ≡ overlay (wordsOf (repliesOf b limit (callsOf calls))) answers
   pub standing : standingOf (r .session .standing) ≡ standingAfter b limit (callsOf calls)
+  pub engine : (M : List ℕ) → settledBook b ≡ some M → EngineDemand3 b calls limit masks cells
   pub demand : (M : List ℕ) → settledBook b ≡ some M → Demand3 b limit (callsOf calls)
   pub opened-dead : settledBook b ≡ none → DeadOpening b limit (callsOf calls)

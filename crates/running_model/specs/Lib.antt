@@ -1,2 +1,3 @@
 pub mod BookRan
+pub mod EngineDemand
 pub mod Runs

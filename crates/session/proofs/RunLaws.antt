@@ -36,7 +36,7 @@ module _ {b calls A A′ M c t h : List ℕ} {r : Ended} (ran : BookRan b calls 
       record {
         answer = answered (settledBook b) Live (λ is. refl) (λ is. absurd (true≢false (sym live ∙ ran .live ∙ is)));
         words = ran .words;
-        masks = sym (ran .represents .masks-are);
+        masks = ran .masks-are;
       }
 
   pub exactly-dead : r .live ≡ false → Exactly b calls Dead A A′ M
@@ -44,5 +44,5 @@ module _ {b calls A A′ M c t h : List ℕ} {r : Ended} (ran : BookRan b calls 
       record {
         answer = answered (settledBook b) Dead (λ is. absurd (true≢false (sym is ∙ sym (ran .live) ∙ dead))) (λ is. refl);
         words = ran .words;
-        masks = sym (ran .represents .masks-are);
+        masks = ran .masks-are;
       }
