@@ -1,17 +1,18 @@
 -- The laws of `specs/Book.antt`. Adequacy: `settledBook-settles` and `settles-settledBook`, `settledBook-dead` and `dead-settledBook`.
 -- No plan is lost: every plan of the book lies within the settled masks (`plan-kept`, `plan-kept-at`) and within
--- the closed bounds (`plan-bounds`), and a book dead in closing or in settling has no plan (`dead-no-plan`).
+-- the closed bounds (`plan-bounds`); a book dead in closing has no plan (`unclosed-no-plan`), nor has one dead in closing or in settling
+-- (`dead-no-plan`).
 -- No contract cites this file. Assumes nothing.
 use mathlib.Core.Path.{_≡_, refl, sym, ap, _∙_}
 use mathlib.Core.List.{List}
 use mathlib.Core.Option.{Option, some, none, bind, Option·some-injective, Option·some-ne-none, Option·none-ne-some}
 use Prim.Native.Nat.{ℕ, _≤_, _<_}
 use native.Mathlib.Omega.{arith}
-use lib.ListN.{getD}
+use lib.ListN.{length, getD}
 use Rattle.domains.specs.Masks.{HasAt, Subset}
 use Rattle.book.specs.Layout.{slots, values, masks, rows}
 use Rattle.book.proofs.LayoutLaws.{length-masks}
-use Rattle.closing_model.specs.Table.{Table, view, place, Loosest, NoneClosed}
+use Rattle.closing_model.specs.Table.{Table, view, size, place, Loosest, NoneClosed}
 use Rattle.closing_model.proofs.PlaceLaws.{place-below}
 use Rattle.closing_model.proofs.StartLaws.{start-lowers-length, start-uppers-length}
 use Rattle.closing_model.proofs.ClosingLaws.{closing-loosest, closing-none}
@@ -48,6 +49,12 @@ module _ (b : List ℕ) where
   closedBook-loosest L U answer =
       closing-loosest (slots b) (values b) _ _ (start-lowers-length (slots b) (values b) (rows b))
       (start-uppers-length (slots b) (values b) (rows b)) L U answer .0
+
+  pub closedBook-lengths : (L U : List ℕ) → closedBook b ≡ some (L, U) → (length L ≡ size (slots b) (values b)) × (length U ≡ size (slots b) (values b))
+  closedBook-lengths L U answer =
+      let found = closing-loosest (slots b) (values b) _ _ (start-lowers-length (slots b) (values b) (rows b))
+      (start-uppers-length (slots b) (values b) (rows b)) L U answer in
+      (found .1, found .2)
 
   pub closedBook-none : closedBook b ≡ none → NoneClosed (slots b) (values b) (bookStart b)
   closedBook-none answer =
@@ -132,6 +139,9 @@ plan-bounds b L U p answer plan v t v<k t≤n =
     let inside = place-below (slots b) (values b) v t v<k t≤n in
     let entry = occurs-entry (slots b) p v t t≤n in
     (omega (arith, within .lowers _ inside), omega (arith, within .uppers _ inside))
+
+pub unclosed-no-plan : (b : List ℕ) → closedBook b ≡ none → (p : List ℕ) → BookPlan b p → ⊥
+unclosed-no-plan b answer p plan = none-closed-no-plan plan (closedBook-none b answer)
 
 pub dead-no-plan : (b : List ℕ) → settledBook b ≡ none → (p : List ℕ) → BookPlan b p → ⊥
 dead-no-plan b answer p plan = go (settledBook-dead b answer)
