@@ -21,8 +21,8 @@ use Rattle.session_model.specs.Calls.{callsOf}
 use Rattle.session_model.specs.Demand.{Demand3, DeadOpening}
 use Rattle.session_model.proofs.DemandLaws.{demand3}
 use Rattle.session_model.proofs.DeadOpeningLaws.{dead-opening}
-use Rattle.worked.specs.Claims.{Side, boundOf, lineOf, Claim, closes, dead, settles, noPlan, session, limits, mostMarks, openWord, wordsSaid, lastMasks, holds, HasLine, RunsTo, Means, passes, every, Says}
-use Rattle.worked.proofs.PlanTestLaws.{planless-no-plan}
+use Rattle.worked.specs.Claims.{Side, boundOf, lineOf, Claim, closes, dead, settles, noPlan, hasPlan, session, limits, mostMarks, openWord, wordsSaid, lastMasks, holds, HasLine, RunsTo, Means, passes, every, Says}
+use Rattle.worked.proofs.PlanTestLaws.{planOf-plan, planless-no-plan}
 
 -- ---- holds
 module _ (b : List ℕ) where
@@ -56,9 +56,13 @@ module _ (b : List ℕ) where
   unfolding holds
   noPlan-means = planless-no-plan b
 
-  session-means : (calls : List ℕ) (opening : ℕ) (words last : List ℕ) → holds b (session calls opening words last) ≡ true → RunsTo b calls opening words last
+  hasPlan-means : (p : List ℕ) → holds b (hasPlan p) ≡ true → BookPlan b p
   unfolding holds
-  session-means calls opening words last tested =
+  hasPlan-means p tested = planOf-plan b p tested
+
+  session-runs : (calls : List ℕ) (opening : ℕ) (words last : List ℕ) → holds b (session calls opening words last) ≡ true → RunsTo b calls opening words last
+  unfolding holds
+  session-runs calls opening words last tested =
       let opens-rest = and-eq-true-iff (eqb (openWord (settledBook b)) opening) (same (wordsSaid b calls) words && same (lastMasks b calls) last) .0 tested in
       let says-ends = and-eq-true-iff (same (wordsSaid b calls) words) (same (lastMasks b calls) last) .0 (opens-rest .1) in
       let opens = eqb-true (openWord (settledBook b)) opening (opens-rest .0) in
@@ -83,7 +87,8 @@ module _ (b : List ℕ) where
   holds-means dead = dead-means
   holds-means (settles M) = settles-means M
   holds-means noPlan = noPlan-means
-  holds-means (session calls opening words last) = session-means calls opening words last
+  holds-means (hasPlan p) = hasPlan-means p
+  holds-means (session calls opening words last) = session-runs calls opening words last
 
 -- ---- passes
 pub passes-says : (row : List ℕ × Claim) → passes row ≡ true → Says row

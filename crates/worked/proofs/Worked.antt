@@ -1,6 +1,6 @@
 -- Document 01's worked table, M1 to M8, proved together. `worked-table` is the one computed test; `worked-says` is what it means, row by row: the
 -- lines of M1 to M4 are those of the loosest closed table; no table of M5 or M6 is closed; M7's masks are the largest stable list within
--- themselves, and M7 has no plan; M8's session opens live with these words and last masks, and demand 3 holds of it.
+-- themselves, and M7 has no plan; M8's book has the plan 0 1 0, and its session opens live with these words and last masks, and demand 3 holds of it.
 -- No contract cites this file. Assumes nothing.
 use mathlib.Core.Path.{_≡_, refl}
 use mathlib.Core.Bool.{true}
@@ -26,13 +26,13 @@ use Rattle.session_model.specs.State.{wordsOf}
 use Rattle.session_model.specs.Refusal.{first, refusal as callRefusal}
 use Rattle.session_model.specs.Machine.{decided, restored, act, stepBy, step, runs, opened, run}
 use Rattle.worked.specs.Bytes.{each, bookOf}
-use Rattle.worked.specs.PlanTest.{allBelow, noList, keepsRow, keepsRows, isPlan, planless}
+use Rattle.worked.specs.PlanTest.{allBelow, noList, keepsRow, keepsRows, isPlan, planOf, planless}
 use Rattle.worked.specs.Claims.{holds, passes, every, Says}
 use Rattle.worked.specs.WorkedTable.{table, workedTable}
 use Rattle.worked.proofs.ClaimsLaws.{every-says}
 
 pub worked-table : workedTable ≡ true
-unfolding bind Option·elim ones total testBit clearBit count only listOf firstOf headerFault maskFault rowFault refusal others lowOf highOf startLowers startUppers newLower newUpper stepLowers stepUppers crossed same closingWithin listSum closing lineBounds tableBounds fixTo strikeUnfixed mapBefore cutIf cutLow cutHigh pass settlingPasses fixpoint noneEmpty noneBroken settling settledBook standsAt keepOnly cut callOf wordsOf first callRefusal decided restored act stepBy step runs opened run each bookOf is allBelow noList keepsRow keepsRows isPlan planless holds passes every
+unfolding bind Option·elim ones total testBit clearBit count only listOf firstOf headerFault maskFault rowFault refusal others lowOf highOf startLowers startUppers newLower newUpper stepLowers stepUppers crossed same closingWithin listSum closing lineBounds tableBounds fixTo strikeUnfixed mapBefore cutIf cutLow cutHigh pass settlingPasses fixpoint noneEmpty noneBroken settling settledBook standsAt keepOnly cut callOf wordsOf first callRefusal decided restored act stepBy step runs opened run each bookOf is allBelow noList keepsRow keepsRows isPlan planOf planless holds passes every
 worked-table = refl
 
 pub worked-says : All Says table

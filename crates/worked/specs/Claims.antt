@@ -1,12 +1,12 @@
 -- What a row of the worked table claims of a book, given by its bytes b: as a test that computes, and as document 01 means it.
 --   Side, boundOf           the lowers or the uppers of a table
 --   lineOf f n v            type v's line: its bounds at the ends 0 to n
---   Claim                   the book closes, with such a line; is dead; settles to such masks; has no plan; a session on it opens so, says such
---                           words and has such last masks
+--   Claim                   the book closes, with such a line; is dead; settles to such masks; has no plan; has such a plan; a session on it
+--                           opens so, says such words and has such last masks
 --   limits, mostMarks       document 01's limits: 256 slots, 32 types, 1024 rows; 256 open marks
 --   openWord                what planrun prints for the opening: 0 live, 1 dead
 --   wordsSaid, lastMasks    the words of a list of calls, and the masks after it, by the plain machine
---   holds b c               the test, by the models `closedBook` and `settledBook`, the plain machine, and `planless`
+--   holds b c               the test, by the models `closedBook` and `settledBook`, the plain machine, `planless` and `planOf`
 --   HasLine, RunsTo         what a line, and what a session, mean
 --   Means b c               the claim by meaning: `Loosest`, `NoneClosed`, `SettlesTo`, `BookPlan`, `Demand3`
 --   passes, Says            the test and the meaning of a row: its book is good, and the claim holds of it
@@ -29,7 +29,7 @@ use Rattle.session_model.specs.Calls.{callsOf}
 use Rattle.session_model.specs.State.{wordsOf}
 use Rattle.session_model.specs.BookRun.{stateAfter, repliesOf}
 use Rattle.session_model.specs.Demand.{Demand3, DeadOpening}
-use Rattle.worked.specs.PlanTest.{planless}
+use Rattle.worked.specs.PlanTest.{planOf, planless}
 
 pub data Side : Type 0 where
   lowers uppers : Side
@@ -46,6 +46,7 @@ pub data Claim : Type 0 where
   dead : Claim
   settles : (masks : List ℕ) → Claim
   noPlan : Claim
+  hasPlan : (plan : List ℕ) → Claim
   session : (calls : List ℕ) → (opening : ℕ) → (words last : List ℕ) → Claim
 
 abbrev pub limits : Limits
@@ -72,6 +73,7 @@ holds b (closes side v bounds) =
 holds b dead = Option·elim (closedBook b) true (λ T. false)
 holds b (settles M) = Option·elim (settledBook b) false (λ N. same N M)
 holds b noPlan = planless b
+holds b (hasPlan p) = planOf b p
 holds b (session calls opening words last) =
     eqb (openWord (settledBook b)) opening && (same (wordsSaid b calls) words && same (lastMasks b calls) last)
 
@@ -95,6 +97,7 @@ Means b (closes side v bounds) = HasLine b side v bounds
 Means b dead = NoneClosed (slots b) (values b) (bookStart b)
 Means b (settles M) = SettlesTo b M
 Means b noPlan = (p : List ℕ) → BookPlan b p → ⊥
+Means b (hasPlan p) = BookPlan b p
 Means b (session calls opening words last) = RunsTo b calls opening words last
 
 -- ---- a row: a book, and what is claimed of it

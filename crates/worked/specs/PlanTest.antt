@@ -1,14 +1,15 @@
--- Whether a small book has a plan, by trying every list of types.
+-- Whether a list is a plan of a book, and whether a small book has one, by trying every list of types.
 --   allBelow k f     f is true of 0, 1, .., k - 1
 --   noList k m f     f is false of every list of m numbers below k
 --   keepsRow p r     the list p keeps the row r; keepsRows: every row of a list
 --   isPlan M rs p    p is allowed by the masks M and keeps the rows rs
+--   planOf b p       p has one type of the book b per slot, and is a plan of b
 --   planless b       no list of one type per slot is a plan of the book b
--- `planless-no-plan` ties it to `BookPlan`. Assumes nothing.
+-- `planOf-plan` and `planless-no-plan` tie them to `BookPlan`. Assumes nothing.
 use mathlib.Core.Bool.{Bool, true, not, _&&_}
 use mathlib.Core.List.{List, [], _∷_}
 use Prim.Native.Nat.{ℕ, zero, suc}
-use lib.Dec.{eqb, leb}
+use lib.Dec.{eqb, leb, ltb}
 use lib.ListN.{length, getD}
 use Rattle.domains.specs.Mask.{testBit}
 use Rattle.book.specs.declared.Row.{Row}
@@ -32,6 +33,9 @@ keepsRows p (r ∷ rs) = keepsRow p r && keepsRows p rs
 
 unfoldable pub isPlan : List ℕ → List Row → List ℕ → Bool
 isPlan M rs p = allBelow (length p) (λ s. eqb (testBit (getD M s 0) (getD p s 0)) 1) && keepsRows p rs
+
+unfoldable pub planOf : List ℕ → List ℕ → Bool
+planOf b p = eqb (length p) (slots b) && (allBelow (slots b) (λ s. ltb (getD p s 0) (values b)) && isPlan (masks b) (rows b) p)
 
 unfoldable pub planless : List ℕ → Bool
 planless b = noList (values b) (slots b) (isPlan (masks b) (rows b))

@@ -1,4 +1,4 @@
--- Document 01's worked table: its books, calls and figures, typed in from there.
+-- Document 01's worked table: its books, calls and figures, typed in from there; and a plan of M8's book, so that there is one.
 --   m1 .. m8            the books, as bytes
 --   m8Calls, m8Words    M8's calls, as bytes, and the words that they are answered
 --   table               its rows, each a book and a claim
@@ -8,7 +8,7 @@ use mathlib.Core.Bool.{Bool}
 use mathlib.Core.List.{List, [], _∷_, _++_}
 use Prim.Native.Nat.{ℕ}
 use Rattle.worked.specs.Bytes.{atLeast, atMost, bookOf, everyType, assign, remove, mark, back, show, upperWalls}
-use Rattle.worked.specs.Claims.{Claim, closes, dead, settles, noPlan, session, lowers, uppers, every}
+use Rattle.worked.specs.Claims.{Claim, closes, dead, settles, noPlan, hasPlan, session, lowers, uppers, every}
 
 -- ---- the books. No masks are given for M1 to M6: every type may go in every slot
 abbrev pub m1 : List ℕ
@@ -66,6 +66,7 @@ table =
     ∷ (m6, dead)
     ∷ (m7, settles (3 ∷ 3 ∷ 3 ∷ 12 ∷ []))
     ∷ (m7, noPlan)
+    ∷ (m8, hasPlan (0 ∷ 1 ∷ 0 ∷ []))
     ∷ (m8, session m8Calls 0 m8Words (1 ∷ 2 ∷ 3 ∷ []))
     ∷ []
 
