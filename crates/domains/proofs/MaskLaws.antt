@@ -293,3 +293,20 @@ mask-subset-antisym {a} {b} a⊆b b⊆a = testBit-ext a b (λ v. le-antisymm (a�
 
 pub mask-subset-clearBit : (m v : ℕ) → Mask·Subset (clearBit m v) m
 mask-subset-clearBit m v = record { bits = testBit-clearBit-le m v }
+
+-- a mask within one of k bits has no more
+pub mask-subset-below : (k : ℕ) {a b : ℕ} → Mask·Subset a b → b < 2 ^ k → a < 2 ^ k
+mask-subset-below zero {a} {b} within below =
+    let none : b ≡ 0 = omega arith in
+    let empty : a ≡ 0 = ones-empty a (omega (arith, ones-subset a b (within .bits), ap ones none, ones-none)) in
+    rw empty (omega arith)
+mask-subset-below (suc k) {a} {b} within below =
+    let halves : Mask·Subset (a / 2) (b / 2) = record { bits = λ v. omega (arith, within .bits (suc v), testBit-suc a v, testBit-suc b v) } in
+    omega (arith, pow-suc 2 k, mask-subset-below k halves (omega (arith, pow-suc 2 k)))
+
+-- of k bits at most k are ones
+pub ones-most : (k m : ℕ) → m < 2 ^ k → ones m ≤ k
+ones-most zero m below =
+    let none : m ≡ 0 = omega arith in
+    omega (arith, ap ones none, ones-none)
+ones-most (suc k) m below = omega (arith, ones-step m, pow-suc 2 k, ones-most k (m / 2) (omega (arith, pow-suc 2 k)))

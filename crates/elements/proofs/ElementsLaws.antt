@@ -8,8 +8,8 @@ use Prim.Native.Nat.{ℕ, zero, suc, _+_, _*_, _/_, _%_, _≤_, _<_}
 use native.Mathlib.Nat.{add-mul-mod-self-right, div-div-eq-div-mul, mul-suc, mul-zero, mul-le-mul-left, le-trans}
 use native.Mathlib.Numerals.{add-one}
 use native.Mathlib.Omega.{arith}
-use lib.ListN.{length, getD, take, drop, length-append, length-drop}
-use lib.Seq.{sets, sets-eq, length-sets, take-suc, take-at, take-length, drop-append-add, drop-drop, length-take-le}
+use lib.ListN.{length, getD, take, drop, length-append, length-drop, List·getD-append}
+use lib.Seq.{getD-append-add, sets, sets-eq, length-sets, take-suc, take-at, take-length, drop-append-add, drop-drop, length-take-le}
 use Rattle.elements.specs.Elements.{digits, bytesOf}
 
 -- ---- digits
@@ -59,6 +59,22 @@ bytesOf-more w xs i i<m =
     ap (bytesOf w) (ap (λ (j : ℕ). take j xs) (add-one i) ∙ take-suc xs i 0 i<m)
     ∙ bytesOf-append w (take i xs) (getD xs i 0 ∷ [])
     ∙ ap (λ (r : List ℕ). bytesOf w (take i xs) ++ r) (bytesOf-one w (getD xs i 0))
+
+-- byte j of element i, whatever stands behind the elements
+pub bytesOf-byte : (w : ℕ) (xs rest : List ℕ) (i j : ℕ) → i < length xs → j < w
+    → getD (bytesOf w xs ++ rest) (w * i + j) 0 ≡ getD (digits w (getD xs i 0)) j 0
+unfolding bytesOf
+bytesOf-byte w [] rest i j i<m j<w = absurd (omega arith)
+bytesOf-byte w (x ∷ xs) rest zero j i<m j<w =
+    ap (λ (p : ℕ). getD ((digits w x ++ bytesOf w xs) ++ rest) p 0) (omega (arith, mul-zero w))
+    ∙ ap (λ (l : List ℕ). getD l j 0) (append-assoc (digits w x) (bytesOf w xs) rest)
+    ∙ List·getD-append (digits w x) (bytesOf w xs ++ rest) 0 j (omega (arith, length-digits w x))
+bytesOf-byte w (x ∷ xs) rest (suc i) j i<m j<w =
+    let at : w * suc i + j ≡ length (digits w x) + (w * i + j) = omega (arith, length-digits w x, mul-suc w i) in
+    ap (λ (p : ℕ). getD ((digits w x ++ bytesOf w xs) ++ rest) p 0) at
+    ∙ ap (λ (l : List ℕ). getD l (length (digits w x) + (w * i + j)) 0) (append-assoc (digits w x) (bytesOf w xs) rest)
+    ∙ getD-append-add (digits w x) (bytesOf w xs ++ rest) (w * i + j) 0
+    ∙ bytesOf-byte w xs rest i j (omega arith) j<w
 
 -- ---- Written
 

@@ -1,1 +1,3 @@
 pub mod CheckLaws
+pub mod Theorems
+pub mod WidthLaws

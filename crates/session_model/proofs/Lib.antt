@@ -6,11 +6,13 @@ pub mod CutLaws
 pub mod DeadOpeningLaws
 pub mod DecisionsLaws
 pub mod DemandLaws
+pub mod FitsLaws
 pub mod InForceLaws
 pub mod KeptLaws
 pub mod LiveLaws
 pub mod OrderLaws
 pub mod OutputLaws
+pub mod PlanLaws
 pub mod RefusalLaws
 pub mod RunLaws
 pub mod StandingLaws

@@ -1,14 +1,14 @@
 -- The laws of `runs`, `run` and `wordsOf`: what a loop over the calls cites. A list is its calls one at a time (`runs-append`, `runs-snoc`,
 -- `run-snoc`), from the opening on (`run-none`, `opened-live`, `opened-dead`); a call inside a list is answered as by one step from the state
--- after the calls before it (`runs-reply`, `runs-through`). No contract cites this file. Assumes nothing.
-use mathlib.Core.Path.{_≡_, refl, ap}
+-- after the calls before it (`runs-reply`, `runs-through`); the first word of an answer (`wordsOf-first`). No contract cites this file. Assumes nothing.
+use mathlib.Core.Path.{_≡_, refl, ap, _∙_}
 use mathlib.Core.List.{List, [], _∷_, _++_}
 use mathlib.Core.Option.{none, some}
-use Prim.Native.Nat.{ℕ, suc, _*_}
+use Prim.Native.Nat.{ℕ, zero, suc, _*_, _<_}
 use native.Mathlib.Omega.{arith}
 use lib.ListN.{length, getD}
 use Rattle.session_model.specs.Calls.{Call}
-use Rattle.session_model.specs.State.{Rules, State, Reply, done, words, wordsOf}
+use Rattle.session_model.specs.State.{Rules, State, Reply, live, dead, value, done, refused, words, wordsOf}
 use Rattle.session_model.specs.Machine.{step, runs, wallless, shut, fresh, opened, run}
 
 -- a run, and one call more
@@ -74,3 +74,20 @@ pub length-wordsOf : (rs : List Reply) → length (wordsOf rs) ≡ 2 * length rs
 unfolding wordsOf
 length-wordsOf [] = refl
 length-wordsOf (r ∷ rs) = omega (arith, length-wordsOf rs)
+
+-- the first word of answer i
+pub wordsOf-first : (rs : List Reply) (i : ℕ) → i < length rs → getD (wordsOf rs) (2 * i) 0 ≡ words (getD rs i done) .0
+unfolding wordsOf
+wordsOf-first [] i i<m = absurd (omega arith)
+wordsOf-first (r ∷ rs) zero i<m = refl
+wordsOf-first (r ∷ rs) (suc i) i<m =
+    let at : 2 * suc i ≡ suc (suc (2 * i)) = omega arith in
+    ap (λ (p : ℕ). getD (words r .0 ∷ words r .1 ∷ wordsOf rs) p 0) at ∙ wordsOf-first rs i (omega arith)
+
+-- of the answers dead alone has 1 there
+pub first-word-dead : (r : Reply) → words r .0 ≡ 1 → r ≡ dead
+first-word-dead (live x) one = absurd (omega (arith, one))
+first-word-dead dead one = refl
+first-word-dead (value x) one = absurd (omega (arith, one))
+first-word-dead done one = absurd (omega (arith, one))
+first-word-dead (refused x) one = absurd (omega (arith, one))

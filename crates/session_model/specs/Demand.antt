@@ -2,6 +2,7 @@
 --   Refused r      the answer is a refusal
 --   At, through    call c stands in the list after these calls and before those; these calls and c
 --   answerTo       the answer to the call that stands after these calls
+--   PlanMeets p ds   the list p of one value a slot is within each of the decisions ds
 --   boundsOf b T   the bounds of a table of the book: stable is meant for those of its closed table
 --   Demand3        the claim for a book that opens live; each call in the list is named by the calls before and after it
 --   DeadOpening    the claim for a book that opens dead
@@ -17,9 +18,10 @@ use Rattle.domains.specs.Masks.{total}
 use Rattle.book.specs.Layout.{slots, values, masks}
 use Rattle.closing_model.specs.Table.{Table, Loosest}
 use Rattle.settling_model.specs.Settled.{LacksAt}
-use Rattle.settling_model.specs.Stable.{Bound, tableBounds}
+use Rattle.settling_model.specs.Plans.{singles}
+use Rattle.settling_model.specs.Stable.{Bound, All, tableBounds}
 use Rattle.settling_model.specs.Book.{bookStart}
-use Rattle.session_model.specs.Decisions.{Decision, assign, remove, LargestUnder, UnstableUnder}
+use Rattle.session_model.specs.Decisions.{Decision, assign, remove, Meets, LargestUnder, UnstableUnder}
 use Rattle.session_model.specs.Calls.{Call, decide, mark, back, show, walls, kindOf}
 use Rattle.session_model.specs.Walls.{wallCount}
 use Rattle.session_model.specs.State.{Reply, live, dead, value, done, refused}
@@ -42,6 +44,9 @@ through before c = before ++ (c ∷ [])
 
 abbrev pub answerTo : List ℕ → ℕ → List Call → List Call → Reply
 answerTo b limit calls before = replyOf b limit calls (length before)
+
+abbrev pub PlanMeets : List ℕ → List Decision → Type 0
+PlanMeets p ds = All (λ d. Meets d (singles p)) ds
 
 abbrev pub boundsOf : List ℕ → Table → List Bound
 boundsOf b T = tableBounds (slots b) (values b) T
