@@ -2,7 +2,7 @@
  * nested_gcc.h: the proved filter of order books, for C99 and C++ on x86-64 Linux.
  * Link with libnested_gcc.a, which `rt staticlib nested_gcc` builds.
  *
- * docs/SPECIFICATION.md has the full text of what is said here: 1 Words and numbers, 2 The book, 3 Closing,
+ * docs/SPECIFICATION.md has the rules in full: 1 Words and numbers, 2 The book, 3 Closing,
  * 4 Settling and plans, 5 The session, 6 Walls, 7 Entries, 8 Refusals, 9 Worked examples, 10 The program planrun.
  * docs/ASSUMPTIONS.md lists what a host must keep.
  *
@@ -19,9 +19,8 @@
  * `upper` of the type; upper NESTED_GCC_NO_UPPER means no upper bound.
  *
  * For every function here:
- * - There is no premise on the bytes. For each book and list of calls in readable and each output in
- *   writable memory the answer is defined, and follows from the book, the calls and the outputs' lengths
- *   alone.
+ * - There is no premise on the bytes. If the book and the calls are readable and the outputs writable, the
+ *   answer is defined, and follows from the book, the calls and the outputs' lengths alone.
  * - A pointer may be NULL, or any other, when its length is 0: nothing is read or written through it. So an
  *   empty std::vector may be passed by its data() and size(). This is tested, not proved, by
  *   host/nested-gcc/tests/null.rs and examples/empty.c. With another length a pointer is not NULL.
@@ -29,8 +28,8 @@
  * - A book is only read, and only during the call, and so is a list of calls. No thread may change them
  *   meanwhile. Functions that run at once may share them.
  * - An output is written only during the call, and only where the function's comment says so. What it
- *   holds before plays no part. It may not overlap the book, the calls or another output, and no other
- *   thread may use it meanwhile.
+ *   holds before plays no part in the answer or in what is written. It may not overlap the book, the calls or
+ *   another output, and no other thread may use it meanwhile.
  * - Lengths are in bytes. An output's elements are little-endian and need no alignment; a trailing part
  *   of an element neither counts nor is written. A buffer is lent: it is the function's for the call alone.
  * - The comment of each function says how much stack a call needs, from its caller's frame down. That is
@@ -77,7 +76,7 @@ extern "C" {
 #define NESTED_GCC_ROW_TYPE (NESTED_GCC_REFUSED + 6u)         /* row type k or more, or its second byte not 0 */
 #define NESTED_GCC_ROW_END (NESTED_GCC_REFUSED + 7u)          /* end 0 or above n */
 #define NESTED_GCC_ROW_BOUND (NESTED_GCC_REFUSED + 8u)        /* lower above 256; upper above 256, not 65535 */
-#define NESTED_GCC_OUTPUT_TOO_SHORT (NESTED_GCC_REFUSED + 9u) /* a lent output too short */
+#define NESTED_GCC_OUTPUT_TOO_SHORT (NESTED_GCC_REFUSED + 9u) /* an output is too short */
 #define NESTED_GCC_CALL_LIST (NESTED_GCC_REFUSED + 10u)       /* call list not whole calls, or over 16,384 bytes */
 
 /*
@@ -97,8 +96,8 @@ uint32_t nested_gcc_check(const uint8_t *book, size_t book_len);
  *
  * At the start a lower is the greatest lower of the rows for v and t, or 0 if there is none, and an upper is
  * the least of t and of those rows' uppers. A table is closed when, wherever both entries exist,
- * - lower(v, t) is at least lower(v, t - 1), lower(v, t + 1) - 1, and t less the other types' uppers at t;
- * - upper(v, t) is at most upper(v, t - 1) + 1, upper(v, t + 1), and t less the other types' lowers at t;
+ * - lower(v, t) is at least lower(v, t - 1), lower(v, t + 1) - 1, and t less the sum of the other types' uppers at t;
+ * - upper(v, t) is at most upper(v, t - 1) + 1, upper(v, t + 1), and t less the sum of the other types' lowers at t;
  * - lower(v, t) is at most upper(v, t).
  * The masks have no part in it.
  *
@@ -158,7 +157,7 @@ uint32_t nested_gcc_settle(const uint8_t *book, size_t book_len, uint8_t *masks,
 
 /* The first word of the answer to a call; what the second is. */
 #define NESTED_GCC_CALL_LIVE 0u  /* a decision; how many types were struck from the masks */
-#define NESTED_GCC_CALL_DEAD 1u  /* a decision that no stable list is within; 0 */
+#define NESTED_GCC_CALL_DEAD 1u  /* a decision that leaves no stable list; 0 */
 #define NESTED_GCC_CALL_VALUE 2u /* a show or a number of walls; the mask or the number */
 #define NESTED_GCC_CALL_DONE 3u  /* a mark or a back; 0 */
 /* Refusals of the one call; 0. */
@@ -188,8 +187,9 @@ uint32_t nested_gcc_settle(const uint8_t *book, size_t book_len, uint8_t *masks,
  *   removing one that it lacks is live with 0 struck.
  * - A mark saves the masks. A back restores those of the latest open mark, and a dead session is live again.
  * - Show and the walls change nothing. They read the masks, also while the session is dead.
- * A refused call changes nothing, and the list goes on. The first of these applies, in this order: 11; 15 for
- * assign, remove, mark; 12 for assign, remove, show; 13 for assign, remove, walls; 14 for back; 16 for mark.
+ * A refused call changes nothing, and the list goes on. It is refused by the first number that applies, in this
+ * order: 11; 15 for assign, remove, mark; 12 for assign, remove, show; 13 for assign, remove, walls; 14 for back; 16
+ * for mark.
  *
  * Walls of a type stand on corners of the table of nested_gcc_close, with P and B as for nested_gcc_settle.
  * - An upper corner is a t from 1 with upper(t) = upper(t - 1) and, unless t = n, upper(t + 1) = upper(t) + 1. Its

@@ -13,7 +13,7 @@ fn fixed(mask: u32, v: usize) -> bool {
     mask == 1 << v
 }
 
-/// Document 01's definition, word for word.
+/// The definition of docs/SPECIFICATION.md, 4.2 to 4.7, rule by rule.
 fn stable(table: &Table, masks: &[u32]) -> bool {
     masks.iter().all(|&mask| mask != 0)
         && (0..table.lower.len()).all(|v| (1..=masks.len()).all(|t| stable_at(table, v, t, &masks[..t])))
