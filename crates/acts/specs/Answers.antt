@@ -5,8 +5,8 @@
 --                          refuses c
 --   Deciding, Marking, Backing, Counting   what the calls need that no number refuses
 --   Strikes n trail from to   the trail has a strike at each height from `from` up to `to`
---   OnesLost n trail from to x   x is the ones of the masks before less those after, whatever masks the strikes from height `from` up to `to` lead
---                          between
+--   OnesLost n trail from to x   x is how many strikes there are from height `from` up to `to`, and so the ones of the masks before them less those
+--                          after them, whatever masks they lead between
 -- Assumes nothing.
 use mathlib.Core.Path.{_≡_}
 use mathlib.Core.List.{List}
@@ -15,7 +15,7 @@ use lib.ListN.{length}
 use Rattle.domains.specs.Masks.{total}
 use Rattle.closing_model.specs.Table.{Table}
 use Rattle.filter_model.specs.Open.{cellsSize}
-use Rattle.filter_model.specs.Trail.{valueAt, Restores}
+use Rattle.filter_model.specs.Trail.{Restores}
 use Rattle.session_model.specs.Calls as Calls
 use Rattle.session_model.specs.Machine.{act}
 use Rattle.session_model.specs.Standing as Model
@@ -47,14 +47,15 @@ pub record Deciding (masks cells trail heights : List ℕ) (n k : ℕ) (session 
 pub record Strikes (n : ℕ) (trail : List ℕ) (from to : ℕ) : Type 0 where
   pub order : from ≤ to
   pub upto : 2 * n + 3 * to ≤ length trail
-  -- a height fits 16 bits, and a value the mask
+  -- a height fits 16 bits
   pub heights-fit : length trail < 65536
-  pub values-fit : (i : ℕ) → from ≤ i → i < to → valueAt n trail i < 32
 
--- taken back, the strikes lead from the masks after them to those before
 pub record OnesLost (n : ℕ) (trail : List ℕ) (from to x : ℕ) : Type 0 where
+  -- one for each strike, whatever the trail holds
+  pub strikes : x ≡ to - from
+  -- taken back, the strikes lead from the masks after them to those before
   pub difference : (k : ℕ) (before after cells cells′ : List ℕ) → Restores n k trail from (to - from) after cells′ before cells
-      → x ≡ total before - total after
+      → x + total after ≡ total before
 
 pub record Marking (heights : List ℕ) (session : Session) : Type 0 where
   pub live : session .standing ≡ Live

@@ -1,15 +1,13 @@
 -- The masks of a good book as the filter's world. No contract cites this file. The law that matters most: `book-world`.
 -- Assumes nothing.
 use mathlib.Core.Path.{sym, _∙_}
-use mathlib.Core.List.{List, [], _∷_}
-use Prim.Native.Nat.{ℕ, suc, _+_, _*_, _^_, _≤_, _<_}
-use native.Mathlib.Nat.{mul-suc}
+use mathlib.Core.List.{List}
+use Prim.Native.Nat.{ℕ, _+_, _*_, _^_, _≤_, _<_}
 use native.Mathlib.Omega.{arith}
 use lib.ListN.{length, getD}
-use lib.Count.{ones-le}
 use Rattle.domains.specs.Masks.{Alive, total}
 use Rattle.domains.proofs.MaskLaws.{testBit-high}
-use Rattle.domains.proofs.MasksLaws.{has-inside}
+use Rattle.domains.proofs.MasksLaws.{has-inside, total-most}
 use Rattle.book.specs.Layout.{slots, values, masks}
 use Rattle.book.proofs.LayoutLaws.{length-masks, getD-masks}
 use Rattle.settling_model.specs.Settled.{LacksAt}
@@ -17,13 +15,6 @@ use Rattle.settling_model.proofs.SettledLaws.{lacks-not-has, not-has-lacks}
 use Rattle.filter_model.specs.Open.{cellsSize}
 use Rattle.filter_model.specs.State.{World}
 use Rattle.settle_fault.specs.Ready.{FitBook}
-
--- a mask below 2 ^ k has at most k ones
-pub total-most : (k : ℕ) (M : List ℕ) → ((s : ℕ) → s < length M → getD M s 0 < 2 ^ k) → total M ≤ k * length M
-unfolding total
-total-most k [] below = omega arith
-total-most k (m ∷ M) below =
-    omega (arith, mul-suc k (length M), ones-le k m (below 0 (omega arith)), total-most k M (λ s inside. below (suc s) (omega arith)))
 
 module _ (b : List ℕ) (fit : FitBook b) where
   book-below : (s : ℕ) → s < length (masks b) → getD (masks b) s 0 < 2 ^ values b

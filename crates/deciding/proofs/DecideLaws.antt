@@ -136,7 +136,7 @@ module _ {masks cells trail heights : List ℕ} {n k : ℕ} {session : Session} 
               let settles : R .settle (cut d (S .masks)) ≡ some masks′ = rw (represents .masks-are) (working .rules .settle (cut d masks) ∙ cuts) in
               let struck : count ≡ R .ones (S .masks) - R .ones masks′ =
               rw (represents .masks-are, represents .suits .ones masks, represents .suits .ones masks′)
-              (lost .difference k masks masks′ cells cells′ (done .moved .trailed .back)) in
+              (omega (arith, lost .difference k masks masks′ cells cells′ (done .moved .trailed .back))) in
               live-answered represents (deciding .live) i d count done settles struck;
         }
 

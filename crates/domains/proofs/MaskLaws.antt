@@ -303,10 +303,3 @@ mask-subset-below zero {a} {b} within below =
 mask-subset-below (suc k) {a} {b} within below =
     let halves : Mask·Subset (a / 2) (b / 2) = record { bits = λ v. omega (arith, within .bits (suc v), testBit-suc a v, testBit-suc b v) } in
     omega (arith, pow-suc 2 k, mask-subset-below k halves (omega (arith, pow-suc 2 k)))
-
--- of k bits at most k are ones
-pub ones-most : (k m : ℕ) → m < 2 ^ k → ones m ≤ k
-ones-most zero m below =
-    let none : m ≡ 0 = omega arith in
-    omega (arith, ap ones none, ones-none)
-ones-most (suc k) m below = omega (arith, ones-step m, pow-suc 2 k, ones-most k (m / 2) (omega (arith, pow-suc 2 k)))

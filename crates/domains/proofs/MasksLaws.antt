@@ -1,18 +1,18 @@
 -- The laws of `specs/Masks.antt`, in its order. No contract cites this file. The ones that matter most: `subset-refl`, `subset-trans`,
 -- `subset-antisym` (the order of lists of masks), `has-store-same`, `has-store-other`, `subset-store` and `total-store` (what a store
--- does), `total-mono` and `total-same` (the measure).
+-- does), `total-most`, `total-mono` and `total-same` (the measure).
 -- Assumes nothing.
 use mathlib.Core.Path.{_≡_, refl, ap, _∙_}
 use mathlib.Core.Logic.{dite}
 use mathlib.Core.List.{List, [], _∷_}
-use Prim.Native.Nat.{ℕ, zero, suc, _+_, _≤_, _<_, zero-le}
-use native.Mathlib.Nat.{le-refl, le-trans, le-antisymm, suc-inj}
+use Prim.Native.Nat.{ℕ, zero, suc, _+_, _*_, _^_, _≤_, _<_, zero-le}
+use native.Mathlib.Nat.{le-refl, le-trans, le-antisymm, mul-suc, suc-inj}
 use native.Mathlib.Decide.{ℕ-discrete, decLt}
 use native.Mathlib.Omega.{arith}
 use lib.Pow.{pow-pos}
 use lib.ListN.{length, getD, set, length-set, List·getD-eq-default}
 use lib.Seq.{ext-getD, getD-set-same, getD-set-other}
-use lib.Count.{ones}
+use lib.Count.{ones, ones-le}
 use Rattle.domains.specs.Mask.{testBit, clearBit}
 use Rattle.domains.specs.Masks.{HasAt, FixedAt, Alive, Subset, total}
 use Rattle.domains.proofs.MaskLaws.{testBit-lt, testBit-empty, testBit-ext, testBit-clearBit-le, ones-clearBit, ones-subset, ones-same, fixed-has, fixed-within}
@@ -90,6 +90,13 @@ total-store (x ∷ M) (suc s) m inside = omega (arith, total-store M s m (omega 
 -- a value taken out at a slot
 pub total-clearBit : (M : List ℕ) (s v : ℕ) → s < length M → total (set M s (clearBit (getD M s 0) v)) + testBit (getD M s 0) v ≡ total M
 total-clearBit M s v inside = omega (arith, total-store M s (clearBit (getD M s 0) v) inside, ones-clearBit (getD M s 0) v)
+
+-- a mask below 2 ^ k has at most k ones
+pub total-most : (k : ℕ) (M : List ℕ) → ((s : ℕ) → s < length M → getD M s 0 < 2 ^ k) → total M ≤ k * length M
+unfolding total
+total-most k [] below = omega arith
+total-most k (m ∷ M) below =
+    omega (arith, mul-suc k (length M), ones-le k m (below 0 (omega arith)), total-most k M (λ s inside. below (suc s) (omega arith)))
 
 tail-subset : {x m : ℕ} {xs ms : List ℕ} → Subset (x ∷ xs) (m ∷ ms) → Subset xs ms
 tail-subset N⊆M = record { len = suc-inj (N⊆M .len); bits = λ s v. N⊆M .bits (suc s) v }

@@ -1,10 +1,10 @@
--- What the entries write fits the width of its elements: bounds are at most 256 (`close-fits`), masks and words below 2 to the 32 (`settle-fits`,
--- `session-words-fit`, `session-masks-fit`). So a host that reads the bytes of an element gets the element (`read16-written`, `read32-written`).
--- No contract cites this file. Assumes nothing.
+-- What the entries write fits the width of its elements: bounds are at most 256 (`close-fits`), masks and words below 4294967296, which is 2 to the 32
+-- (`settle-fits`, `session-words-fit`, `session-masks-fit`). So a host that reads the bytes of an element gets the element (`read16-written`,
+-- `read32-written`). No contract cites this file. Assumes nothing.
 use mathlib.Core.Path.{_≡_, ap}
 use mathlib.Core.Logic.{dite}
-use mathlib.Core.List.{List}
-use Prim.Native.Nat.{ℕ, _+_, _*_, _^_, _≤_, _<_}
+use mathlib.Core.List.{List, [], _∷_}
+use Prim.Native.Nat.{ℕ, zero, suc, _+_, _*_, _^_, _≤_, _<_}
 use native.Mathlib.Decide.{decLt}
 use native.Mathlib.Nat.{lt-of-lt-of-le, add-zero}
 use native.Mathlib.Omega.{arith}
@@ -26,12 +26,18 @@ use Rattle.closing.specs.Close.{closeFault, overlay}
 use Rattle.settling_model.specs.Book.{bookStart, SettlesTo}
 use Rattle.settling_model.specs.Stable.{All}
 use Rattle.settle_fault.specs.Settle.{settleFault}
+use Rattle.session_model.specs.BookRun.{rulesOf}
 use Rattle.session_model.specs.Calls.{callsOf}
-use Rattle.session_model.proofs.FitsLaws.{book-fitting, words-fit, masks-fit}
+use Rattle.session_model.proofs.FitsLaws.{Fitting, book-fitting, words-fit, masks-fit}
 use Rattle.session_fault.specs.Entry.{mostMarks}
 use Rattle.session_fault.proofs.EntryLaws.{sessionFault-good}
 use Rattle.entries_model.specs.Entries.{fullLimits}
 use Rattle.entries_model.specs.Meaning.{closeNumber, settleNumber, sessionNumber, sessionWords, sessionMasks}
+
+all-at : (C : ℕ → Type 0) (xs : List ℕ) → All C xs → (i : ℕ) → i < length xs → C (getD xs i 0)
+all-at C [] all i inside = absurd (omega arith)
+all-at C (x ∷ xs) all zero inside = all .0
+all-at C (x ∷ xs) all (suc i) inside = all-at C xs (all .1) i (omega arith)
 
 -- ---- a good book
 close-good : (b L U : List ℕ) → closeNumber b L U ≡ 0 → GoodFacts fullLimits b
@@ -68,7 +74,7 @@ module _ (b L U : List ℕ) (unrefused : closeNumber b L U ≡ 0) where
 
 -- ---- settle
 module _ (b M : List ℕ) (unrefused : settleNumber b M ≡ 0) where
-  pub settle-fits : (N : List ℕ) → SettlesTo b N → (s : ℕ) → getD N s 0 < 2 ^ 32
+  pub settle-fits : (N : List ℕ) → SettlesTo b N → (s : ℕ) → getD N s 0 < 4294967296
   settle-fits N settles s =
       mask-subset-below 32 (record { bits = settles .largest .within .bits s }) (masks-below b (settle-good b M unrefused) s)
 
@@ -77,13 +83,14 @@ module _ (b calls A M : List ℕ) (unrefused : sessionNumber b calls A M ≡ 0) 
   session-good : GoodFacts fullLimits b
   session-good = sessionFault-good fullLimits b (length calls) _ _ unrefused
 
-  pub session-words-fit : All (λ x. x < 4294967296) (sessionWords b calls)
-  session-words-fit =
-      words-fit b mostMarks 4294967296 (book-fitting b mostMarks (session-good .header .slots-most) (masks-below b session-good)) (callsOf calls)
+  session-fitting : Fitting (rulesOf b mostMarks) (masks b) 4294967296
+  session-fitting = book-fitting b mostMarks (session-good .header .slots-most) (masks-below b session-good)
+
+  pub session-words-fit : (i : ℕ) → i < length (sessionWords b calls) → getD (sessionWords b calls) i 0 < 4294967296
+  session-words-fit i inside = all-at (λ x. x < 4294967296) (sessionWords b calls) (words-fit b mostMarks 4294967296 session-fitting (callsOf calls)) i inside
 
   pub session-masks-fit : (s : ℕ) → getD (sessionMasks b calls) s 0 < 4294967296
-  session-masks-fit s =
-      masks-fit b mostMarks 4294967296 (book-fitting b mostMarks (session-good .header .slots-most) (masks-below b session-good)) (callsOf calls) s
+  session-masks-fit s = masks-fit b mostMarks 4294967296 session-fitting (callsOf calls) s
 
 -- ---- read back
 module _ (xs lent : List ℕ) (i : ℕ) (inside : i < length xs) where

@@ -1,30 +1,35 @@
--- What the exported entries answer and write, in document 01's words: refused by the number, and each output as it was; dead exactly where no
--- closed table, or no stable list, lies within; live with the loosest closed table, the largest stable list, or a session for which demand 3 holds.
+-- What close, settle and session, the exported entries with outputs, answer and write, in document 01's words: refused by the number, and each
+-- output as it was; dead exactly where no closed table, or no stable list, lies within; live with the loosest closed table, the largest stable list,
+-- or a session for which demand 3 holds. (check's answer is `checkAnswer` of `specs/Entries.antt`.)
 --   closeNumber, settleNumber, sessionNumber   the number that refuses, from the bytes and the outputs' lengths; 0 where none does
 --   CloseMeans b L U r L′ U′     of book b and the outputs L and U as they are lent: r is close's answer, L′ and U′ the outputs as they come back
 --   SettleMeans b M r M′         the same of settle, with one output
 --   SessionMeans b calls A M r A′ M′   the same of session: A the answers, M the masks
 --   sessionWords, sessionMasks   the words of all calls and the masks after the list, by the plain machine
---   KeepsPlans b calls           no plan that meets the decisions in force after the list is lost
---   DeadPlanless b calls         no plan meets a decision that was answered dead and those in force before it
--- `close-means`, `settle-means` and `session-means` say that the contracts of the entries have these meanings, `session-plan-at` and
--- `dead-decision-no-plan` the last two of a session that is answered live. Assumes nothing.
+--   WithinBounds b L′ U′ p       the plan p keeps the bounds that a host reads in the outputs
+--   WithinMasks b M′ p           the plan p has each slot's type in the mask that a host reads in the output
+--   SessionPlans b calls M′      no plan that meets the decisions in force after the list is lost
+--   DeadPlanless b calls A′      no plan meets a decision that was answered dead and those in force before it
+-- `close-means`, `means-close` and so on say that the contracts of the entries have just these meanings; `close-plan-kept`, `settle-plan-kept`,
+-- `session-plan-at` and `dead-decision-no-plan` prove the last four. Assumes nothing.
 use mathlib.Core.Path.{_≡_}
-use mathlib.Core.List.{List, _∷_}
-use Prim.Native.Nat.{ℕ, suc, _+_, _*_, _<_}
+use mathlib.Core.List.{List, [], _∷_}
+use Prim.Native.Nat.{ℕ, suc, _+_, _*_, _≤_, _<_}
 use lib.ListN.{length, getD, replicate}
-use Rattle.domains.specs.Masks.{HasAt}
-use Rattle.book.specs.Layout.{slots, values}
+use Rattle.domains.specs.Mask.{Has}
+use Rattle.book.specs.Layout.{word16, word32, slots, values}
 use Rattle.elements.specs.Elements.{bytesOf, whole}
 use Rattle.closing_model.specs.Start.{entries}
-use Rattle.closing_model.specs.Table.{view, Loosest, NoneClosed}
+use Rattle.closing_model.specs.Table.{view, place, Loosest, NoneClosed}
 use Rattle.closing.specs.Close.{closeFault, overlay}
 use Rattle.settling_model.specs.Book.{bookStart, SettlesTo, DeadBook, BookPlan}
+use Rattle.settling_model.specs.Plans.{occurs}
 use Rattle.settle_fault.specs.Settle.{settleFault}
 use Rattle.session_model.specs.BookRun.{stateAfter, repliesOf, forceAfter}
 use Rattle.session_model.specs.Calls.{Call, decide, callsOf}
 use Rattle.session_model.specs.Decisions.{Decision}
 use Rattle.session_model.specs.Demand.{At, PlanMeets, Demand3, DeadOpening}
+use Rattle.session_model.specs.Machine.{fresh}
 use Rattle.session_model.specs.State.{wordsOf}
 use Rattle.session_fault.specs.Entry.{mostMarks, sessionFault}
 use Rattle.entries_model.specs.Entries.{fullLimits}
@@ -70,17 +75,24 @@ pub data SessionMeans (b calls A M : List ℕ) (r : ℕ) (A′ M′ : List ℕ) 
   opens-dead : sessionNumber b calls A M ≡ 0 → DeadBook b → r ≡ 1 → DeadOpening b mostMarks (callsOf calls)
       → A′ ≡ overlay (bytesOf 4 (sessionWords b calls)) A → M′ ≡ overlay (bytesOf 4 (replicate (slots b) 0)) M → SessionMeans b calls A M r A′ M′
   -- it opens live with the largest stable list: demand 3 holds of the words and of the last masks
-  opens-live : sessionNumber b calls A M ≡ 0 → (settled : List ℕ) → SettlesTo b settled → r ≡ 0 → Demand3 b mostMarks (callsOf calls)
+  opens-live : sessionNumber b calls A M ≡ 0 → (settled : List ℕ) → SettlesTo b settled → stateAfter b mostMarks [] ≡ fresh settled → r ≡ 0
+      → Demand3 b mostMarks (callsOf calls)
       → A′ ≡ overlay (bytesOf 4 (sessionWords b calls)) A → M′ ≡ overlay (bytesOf 4 (sessionMasks b calls)) M → SessionMeans b calls A M r A′ M′
 
--- ---- plans in a session
-abbrev pub KeepsPlans : List ℕ → List ℕ → Type 0
-KeepsPlans b calls =
-    (p : List ℕ) → BookPlan b p → PlanMeets p (forceAfter b mostMarks (callsOf calls))
-    → (s : ℕ) → s < slots b → HasAt (sessionMasks b calls) s (getD p s 0)
+-- ---- plans, of what a host reads in the outputs
+abbrev pub WithinBounds : List ℕ → List ℕ → List ℕ → List ℕ → Type 0
+WithinBounds b L′ U′ p =
+    (v t : ℕ) → v < values b → t ≤ slots b
+    → (word16 L′ (2 * place (slots b) v t) ≤ occurs p v t) × (occurs p v t ≤ word16 U′ (2 * place (slots b) v t))
 
--- answered dead: the first word of the call is 1
-abbrev pub DeadPlanless : List ℕ → List ℕ → Type 0
-DeadPlanless b calls =
+abbrev pub WithinMasks : List ℕ → List ℕ → List ℕ → Type 0
+WithinMasks b M′ p = (s : ℕ) → s < slots b → Has (word32 M′ (4 * s)) (getD p s 0)
+
+abbrev pub SessionPlans : List ℕ → List ℕ → List ℕ → Type 0
+SessionPlans b calls M′ = (p : List ℕ) → BookPlan b p → PlanMeets p (forceAfter b mostMarks (callsOf calls)) → WithinMasks b M′ p
+
+-- answered dead: the first of the call's two words is 1
+abbrev pub DeadPlanless : List ℕ → List ℕ → List ℕ → Type 0
+DeadPlanless b calls A′ =
     (p : List ℕ) → BookPlan b p → (before rest : List Call) (d : Decision) → At (callsOf calls) before (decide d) rest
-    → getD (sessionWords b calls) (2 * length before) 0 ≡ 1 → PlanMeets p (d ∷ forceAfter b mostMarks before) → ⊥
+    → word32 A′ (4 * (2 * length before)) ≡ 1 → PlanMeets p (d ∷ forceAfter b mostMarks before) → ⊥

@@ -1,22 +1,21 @@
 -- The laws of `specs/BookRan.antt`: a session opened live (`opens-live`) or dead (`opens-dead`), and a list run from there (`book-ran`); by the way
 -- the laws of `specs/EngineDemand.antt`: the machine's claim holds of the engine, since its cells mirror the book's closed table and its masks
--- (`engine-demand3`). No contract cites this file. Assumes nothing.
+-- (`engine-demand3`, `bookran-mirror`). No contract cites this file. Assumes nothing.
 use mathlib.Core.Path.{_≡_, refl, sym, ap, _∙_, subst, subst⁻¹}
 use mathlib.Core.Bool.{Bool, true, false, not}
 use mathlib.Core.Logic.{_↔_}
 use mathlib.Core.List.{List, [], _∷_}
 use mathlib.Core.Option.{Option, none, some}
-use Prim.Native.Nat.{ℕ, suc, _≤_, _<_}
+use Prim.Native.Nat.{ℕ, suc, _+_, _*_, _≤_, _<_}
 use native.Mathlib.Omega.{arith}
-use lib.ListN.{length, replicate}
+use lib.ListN.{length, drop, replicate, length-append, List·getD-append}
 use Rattle.book.specs.Layout as Layout
 use Rattle.closing_model.specs.Table.{Table, view}
 use Rattle.settling_model.specs.Book.{closedBook, settledBook}
 use Rattle.settling_model.specs.Settling.{settling}
 use Rattle.settling_model.specs.Stable.{Bound, tableBounds}
-use Rattle.settling_model.proofs.BookLaws.{closedBook-loosest}
+use Rattle.settling_model.proofs.BookLaws.{closedBook-loosest, loosest-bounds}
 use Rattle.settling_model.proofs.SettlingLaws.{settling-largest}
-use Rattle.settling_model.proofs.TableBoundsLaws.{tableBounds-same}
 use Rattle.segments_model.proofs.SlackLaws.{segments-stands, segments-holds}
 use Rattle.filter_model.specs.Mirror.{Mirror}
 use Rattle.outcomes.specs.declared.Outcome.{Outcome}
@@ -24,21 +23,23 @@ use Rattle.outcomes.specs.declared.Outcome.the-variants as Outcomes
 use Rattle.book_opening.specs.State.{BookState, OpensBook}
 use Rattle.session_model.specs.BookRun.{rulesOf, stateAfter, repliesOf, forceAfter, standingAfter}
 use Rattle.session_model.specs.Calls as Calls
-use Rattle.session_model.specs.Calls.{Call, callsOf}
+use Rattle.session_model.specs.Calls.{Call, decide, callsOf}
 use Rattle.session_model.specs.Decisions.{LargestUnder, UnstableUnder}
-use Rattle.session_model.specs.Demand.{answerTo, boundsOf, Demand3}
+use Rattle.session_model.specs.Demand.{At, answerTo, boundsOf, Demand3}
 use Rattle.session_model.specs.Machine.{opened, run, runs}
 use Rattle.session_model.specs.State as Machine
-use Rattle.session_model.specs.State.{Rules, State, Reply}
+use Rattle.session_model.specs.State.{Rules, State, Reply, words, wordsOf}
 use Rattle.session_model.specs.Standing as Model
 use Rattle.session_model.specs.Standing.{stand, standFrom}
 use Rattle.session_model.specs.Walls.{Wall}
 use Rattle.session_model.proofs.BookRunLaws.{rulesOf-settle, rulesOf-closed, rulesOf-standing, settled-closed}
 use Rattle.session_model.proofs.DeadOpeningLaws.{dead-opening}
 use Rattle.session_model.proofs.DemandLaws.{demand3}
-use Rattle.session_model.proofs.RunLaws.{opened-live, opened-dead}
+use Rattle.session_model.proofs.RunLaws.{opened-live, opened-dead, length-run, length-wordsOf, wordsOf-first, first-word-dead, first-word-unrefused}
 use Rattle.running_model.specs.BookRan.{tableOf, bookTable, openedRules, openedState, opensLive, Openable, Opens, BookRan}
-use Rattle.running_model.specs.EngineDemand.{RightEnd, EngineDemand3}
+use Rattle.closing.specs.Close.{overlay}
+use Rattle.running_model.specs.declared.Ended.{Ended}
+use Rattle.running_model.specs.EngineDemand.{EndsAt, firstWord, EngineDemand3}
 use Rattle.acts.specs.Given.{standingOf, isShut}
 use Rattle.acts.specs.Represents.{Room, Working, Represents, Running}
 use Rattle.running_model.specs.Runs.{Runs}
@@ -193,7 +194,7 @@ run-opened b M limit calls standing settles is =
 
 -- ---- EngineDemand3
 mirror-walls : {n k : ℕ} {T : Table} {M cells : List ℕ} → Mirror n k T M cells → (kind : Bool) (v t : ℕ) → v < k → 0 < t → t ≤ n
-    → RightEnd kind n k v cells t ↔ Wall kind n T M v t
+    → EndsAt kind n k v cells t ↔ Wall kind n T M v t
 mirror-walls mirror true v t v<k from upto =
     let row = mirror .rows true v v<k in
     (segments-stands row t from upto, segments-holds row t from upto)
@@ -201,17 +202,28 @@ mirror-walls mirror false v t v<k from upto =
     let row = mirror .rows false v v<k in
     (segments-stands row t from upto, segments-holds row t from upto)
 
--- the machine's claim, over the engine's masks, and the cells that mirror the closed table and them
-engine-demand3 : (b calls : List ℕ) (limit : ℕ) (L U masks cells : List ℕ) → closedBook b ≡ some (L, U) → Demand3 b limit (callsOf calls)
+-- the first word of a call in the answers is that of the machine's answer to it
+answer-word : (b calls : List ℕ) (limit : ℕ) (answers answers′ : List ℕ) → answers′ ≡ overlay (wordsOf (repliesOf b limit (callsOf calls))) answers
+    → (before rest : List Call) (c : Call) → At (callsOf calls) before c rest
+    → firstWord answers′ before ≡ words (answerTo b limit (callsOf calls) before) .0
+answer-word b calls limit answers answers′ written before rest c at =
+    let replies = repliesOf b limit (callsOf calls) in
+    let all : length replies ≡ length before + suc (length rest) = length-run (rulesOf b limit) (Layout.masks b) (callsOf calls) ∙ ap length at
+    ∙ length-append before (c ∷ rest) in
+    let inside : 2 * length before < length (wordsOf replies) = omega (arith, length-wordsOf replies, all) in
+    ap (λ (l : List ℕ). firstWord l before) written
+    ∙ List·getD-append (wordsOf replies) (drop (length (wordsOf replies)) answers) 0 (2 * length before) inside
+    ∙ wordsOf-first replies (length before) (omega (arith, all))
+
+-- the machine's claim, over the engine's answers and masks, and the cells that mirror the closed table and them
+engine-demand3 : (b calls : List ℕ) (limit : ℕ) (L U answers answers′ masks cells : List ℕ) → closedBook b ≡ some (L, U)
+    → Demand3 b limit (callsOf calls) → answers′ ≡ overlay (wordsOf (repliesOf b limit (callsOf calls))) answers
     → stateAfter b limit (callsOf calls) .masks ≡ masks → Mirror (Layout.slots b) (Layout.values b) (view L U) masks cells
-    → EngineDemand3 b calls limit masks cells
-engine-demand3 b calls limit L U masks cells closes claim masks-are mirror =
+    → EngineDemand3 b calls limit answers′ masks cells
+engine-demand3 b calls limit L U answers answers′ masks cells closes claim written masks-are mirror =
     let force = forceAfter b limit (callsOf calls) in
     let one = closedBook-loosest b L U closes in
-    let other = claim .loosest in
-    let same : boundsOf b (claim .table) ≡ boundsOf b (view L U) =
-    tableBounds-same (Layout.slots b) (claim .table) (view L U) (Layout.values b) (other .loosest (view L U) (one .closed) (one .within))
-    (one .loosest (claim .table) (other .closed) (other .within)) in
+    let same = loosest-bounds (Layout.slots b) (Layout.values b) (claim .loosest) one in
     record {
       table = view L U;
       loosest = one;
@@ -219,9 +231,16 @@ engine-demand3 b calls limit L U masks cells closes claim masks-are mirror =
           subst (λ (N : List ℕ). LargestUnder (boundsOf b (view L U)) (Layout.masks b) force N) masks-are
           (subst (λ (bs : List Bound). LargestUnder bs (Layout.masks b) force (stateAfter b limit (callsOf calls) .masks)) same (claim .largest));
       walls = mirror-walls mirror;
-      dies = λ before rest d at not-refused.
-          subst (λ (bs : List Bound). (answerTo b limit (callsOf calls) before ≡ Machine.dead) ↔ UnstableUnder bs (Layout.masks b) (d ∷ forceAfter b limit before)) same
-          (claim .dies before rest d at not-refused);
+      dies = λ before rest d at unrefused.
+          let reply = answerTo b limit (callsOf calls) before in
+          let word = answer-word b calls limit answers answers′ written before rest (decide d) at in
+          let dead-word = first-word-dead reply in
+          let exactly = claim .dies before rest d at (first-word-unrefused reply (rw word at unrefused)) in (
+            λ one-word. subst (λ (bs : List Bound). UnstableUnder bs (Layout.masks b) (d ∷ forceAfter b limit before)) same
+                (exactly .0 (dead-word .1 (sym word ∙ one-word))),
+            λ none. word ∙ dead-word .0
+                (exactly .1 (subst⁻¹ (λ (bs : List Bound). UnstableUnder bs (Layout.masks b) (d ∷ forceAfter b limit before)) same none)),
+          );
     }
 
 module _ {b m c t : List ℕ} {fresh : Session} (opens : Opens b m c t fresh) {n k : ℕ} (n-is : n ≡ Layout.slots b) (k-is : k ≡ Layout.values b)
@@ -237,7 +256,7 @@ module _ {b m c t : List ℕ} {fresh : Session} (opens : Opens b m c t fresh) {n
       → Runs n k (callsOf calls) fresh m c t heights answers session m′ c′ t′ h′ answers′
       → BookRan b calls (length heights) answers answers′ m′ c′ t′ h′ (record { session = session; live = not shut })
   unfolding run
-  book-ran calls {m′ = m′} {c′} {t′} {h′} {session} shut shut-is ran =
+  book-ran calls {answers} {answers′} {m′} {c′} {t′} {h′} {session} shut shut-is ran =
       let limit = length heights in
       let done = ran .does (bookTable b) (openedRules b limit) (openedState b limit) opened-represents in
       let represents : Represents (bookTable b) (openedRules b limit) (stateAfter b limit (callsOf calls)) m′ c′ t′ h′ (Layout.slots b) (Layout.values b)
@@ -254,8 +273,18 @@ module _ {b m c t : List ℕ} {fresh : Session} (opens : Opens b m c t fresh) {n
         engine = λ M settles.
             let closes = settled-closed b M settles in
             let working = opened-working represents (run-opened b M limit (callsOf calls) (session .standing) settles standing) in
-            engine-demand3 b calls limit (closes .0) (closes .1) m′ c′ (closes .2) (demand3 b limit M settles (callsOf calls)) (represents .masks-are)
-            (subst (λ (T : Table). Mirror (Layout.slots b) (Layout.values b) T m′ c′) (bookTable-closed b (closes .0) (closes .1) (closes .2)) (working .mirror));
+            engine-demand3 b calls limit (closes .0) (closes .1) answers answers′ m′ c′ (closes .2) (demand3 b limit M settles (callsOf calls)) (done .words)
+            (represents .masks-are)
+            (subst (λ (T : Table). Mirror (Layout.slots b) (Layout.values b) T m′ c′) (bookTable-closed b (closes .0) (closes .1) (closes .2))
+            (working .mirror));
         demand = λ M settles. demand3 b limit M settles (callsOf calls);
         opened-dead = λ dies. dead-opening b limit dies (callsOf calls);
       }
+
+-- the cells mirror the closed table and the masks, in all that the engine keeps: the spent corners and the slacks too
+pub bookran-mirror : {b calls : List ℕ} {limit : ℕ} {answers answers′ masks cells trail heights : List ℕ} {r : Ended}
+    → BookRan b calls limit answers answers′ masks cells trail heights r → (L U M : List ℕ) → closedBook b ≡ some (L, U) → settledBook b ≡ some M
+    → Mirror (Layout.slots b) (Layout.values b) (view L U) masks cells
+bookran-mirror {b} {calls} {limit} {masks = masks} {cells} {r = r} ran L U M closes settles =
+    subst (λ (T : Table). Mirror (Layout.slots b) (Layout.values b) T masks cells) (bookTable-closed b L U closes)
+    (opened-working (ran .represents) (run-opened b M limit (callsOf calls) (r .session .standing) settles (ran .standing)) .mirror)

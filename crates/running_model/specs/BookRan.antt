@@ -6,8 +6,8 @@
 --   Opens b .. r         the slices and the session r stand for the machine at its opening, by the book's closed table
 --   BookRunnable         room for a book's run
 --   BookRan b calls ..   after the list the slices stand for the machine's last state, by the book's closed table: the masks are the machine's; the
---                        answers are the machine's words; the standing is the machine's; after a live opening demand 3 holds of the engine's masks
---                        and cells (`EngineDemand3`) and of this machine (`Demand3`); and for a book that opens dead `DeadOpening` holds
+--                        answers are the machine's words; the standing is the machine's; after a live opening demand 3 holds of the engine's answers,
+--                        masks and cells (`EngineDemand3`) and of this machine (`Demand3`); and for a book that opens dead `DeadOpening` holds
 -- Assumes nothing.
 use mathlib.Core.Path.{_≡_}
 use mathlib.Core.Bool.{Bool, true, false}
@@ -70,6 +70,6 @@ pub record BookRan (b calls : List ℕ) (limit : ℕ) (answers answers′ masks 
   pub masks-are : masks ≡ stateAfter b limit (callsOf calls) .masks
   pub words : answers′ ≡ overlay (wordsOf (repliesOf b limit (callsOf calls))) answers
   pub standing : standingOf (r .session .standing) ≡ standingAfter b limit (callsOf calls)
-  pub engine : (M : List ℕ) → settledBook b ≡ some M → EngineDemand3 b calls limit masks cells
+  pub engine : (M : List ℕ) → settledBook b ≡ some M → EngineDemand3 b calls limit answers′ masks cells
   pub demand : (M : List ℕ) → settledBook b ≡ some M → Demand3 b limit (callsOf calls)
   pub opened-dead : settledBook b ≡ none → DeadOpening b limit (callsOf calls)

@@ -1,21 +1,21 @@
 -- What a session says and keeps fits a width: where every mask of the book is below w, and so are wall counts and ones, each word of each answer
 -- and each mask after the list is below w (`words-fit`, `masks-fit`).
 --   Fitting R book w   what the rules and the book's masks give for that; `book-fitting`: they do, for 32 bits
---   Inside, Small      what each call keeps of the state, and what it gives for its answer
+--   MasksInside, Small      what each call keeps of the state, and what it gives for its answer
 -- No contract cites this file. Assumes nothing.
 use mathlib.Core.Path.{_≡_, refl, sym, ap, _∙_, subst⁻¹}
 use mathlib.Core.Bool.{Bool, true, false}
 use mathlib.Core.List.{List, [], _∷_}
 use mathlib.Core.Option.{Option, none, some, bind, Option·elim, Option·none-ne-some}
-use Prim.Native.Nat.{ℕ, zero, suc, _-_, _*_, _^_, _≤_, _<_, zero-le}
+use Prim.Native.Nat.{ℕ, zero, suc, _-_, _^_, _≤_, _<_, zero-le}
 use native.Mathlib.Numerals.{add-one}
 use native.Mathlib.Omega.{arith}
 use lib.Dec.{lit<}
-use lib.ListN.{length, getD, replicate, length-replicate}
-use Rattle.domains.specs.Masks.{Subset, total}
+use lib.ListN.{getD, replicate, length-replicate}
+use Rattle.domains.specs.Masks.{Subset}
 use Rattle.domains.specs.Counts.{count, bit}
-use Rattle.domains.proofs.MaskLaws.{testBit-empty, mask-subset-below, ones-most}
-use Rattle.domains.proofs.MasksLaws.{subset-trans, total-mono}
+use Rattle.domains.proofs.MaskLaws.{testBit-empty, mask-subset-below}
+use Rattle.domains.proofs.MasksLaws.{subset-trans, total-most, total-mono}
 use Rattle.domains.proofs.CountsLaws.{count-none, count-next}
 use Rattle.book.specs.Layout.{slots, values, masks}
 use Rattle.book.proofs.LayoutLaws.{length-masks}
@@ -45,7 +45,7 @@ pub record Fitting (R : Rules) (book : List ℕ) (w : ℕ) : Type 0 where
   pub masks : (M : List ℕ) → Subset M book → (s : ℕ) → getD M s 0 < w
 
 -- the masks of a state, and those that it saved, lie within the book's
-pub record Inside (book : List ℕ) (S : State) : Type 0 where
+pub record MasksInside (book : List ℕ) (S : State) : Type 0 where
   pub masks : Subset (S .masks) book
   pub saved : All (λ M. Subset M book) (S .saved)
 
@@ -77,11 +77,11 @@ module _ {R : Rules} {book : List ℕ} {w : ℕ} (fitting : Fitting R book w) wh
   small-refused r = record { first = omega (arith, fitting .numbers, number-most r); second = omega (arith, fitting .numbers) }
 
   -- ---- one call
-  act-fits : (S : State) (c : Call) → Inside book S → Inside book (act R S c .0) × Small w (act R S c .1)
+  act-fits : (S : State) (c : Call) → MasksInside book S → MasksInside book (act R S c .0) × Small w (act R S c .1)
   unfolding act decided restored
   act-fits S (decide d) inside = go (R .settle (cut d (S .masks))) refl
     where
-      go : (o : Option (List ℕ)) → R .settle (cut d (S .masks)) ≡ o → Inside book (decided R S o .0) × Small w (decided R S o .1)
+      go : (o : Option (List ℕ)) → R .settle (cut d (S .masks)) ≡ o → MasksInside book (decided R S o .0) × Small w (decided R S o .1)
       go none is = (
         record { masks = inside .masks; saved = inside .saved },
         record { first = omega (arith, fitting .numbers); second = omega (arith, fitting .numbers) },
@@ -94,24 +94,24 @@ module _ {R : Rules} {book : List ℕ} {w : ℕ} (fitting : Fitting R book w) wh
   act-fits S mark inside = (record { masks = inside .masks; saved = (inside .masks, inside .saved) }, small-done)
   act-fits S back inside = go (S .saved) (inside .saved)
     where
-      go : (Ms : List (List ℕ)) → All (λ M. Subset M book) Ms → Inside book (restored S Ms) × Small w done
+      go : (Ms : List (List ℕ)) → All (λ M. Subset M book) Ms → MasksInside book (restored S Ms) × Small w done
       go [] saved = (inside, small-done)
       go (M ∷ Ms) saved = (record { masks = saved .0; saved = saved .1 }, small-done)
   act-fits S (show s) inside = (inside, small-value _ (fitting .masks (S .masks) (inside .masks) s))
   act-fits S (walls kind v) inside = (inside, small-value _ (fitting .standing kind (S .masks) v))
   act-fits S unknown inside = (inside, small-refused unknownKind)
 
-  step-fits : (S : State) (c : Call) → Inside book S → Inside book (step R S c .0) × Small w (step R S c .1)
+  step-fits : (S : State) (c : Call) → MasksInside book S → MasksInside book (step R S c .0) × Small w (step R S c .1)
   unfolding step stepBy
   step-fits S c inside = go (refusal R S c)
     where
-      go : (o : Option Refusal) → Inside book (stepBy R S c o .0) × Small w (stepBy R S c o .1)
+      go : (o : Option Refusal) → MasksInside book (stepBy R S c o .0) × Small w (stepBy R S c o .1)
       go none = act-fits S c inside
       go (some r) = (inside, small-refused r)
 
   -- ---- a list
-  pub runs-fit : (S : State) (calls : List Call) → Inside book S
-      → Inside book (runs R S calls .0) × All (λ x. x < w) (wordsOf (runs R S calls .1))
+  pub runs-fit : (S : State) (calls : List Call) → MasksInside book S
+      → MasksInside book (runs R S calls .0) × All (λ x. x < w) (wordsOf (runs R S calls .1))
   unfolding runs wordsOf
   runs-fit S [] inside = (inside, tt)
   runs-fit S (c ∷ calls) inside =
@@ -136,7 +136,7 @@ module _ (b : List ℕ) (limit w : ℕ) (fitting : Fitting (rulesOf b limit) (ma
   zeros-at (suc n) zero = refl
   zeros-at (suc n) (suc s) = zeros-at n s
 
-  shut-inside : Inside (masks b) (shut (rulesOf b limit))
+  shut-inside : MasksInside (masks b) (shut (rulesOf b limit))
   shut-inside =
       record {
         masks =
@@ -148,12 +148,12 @@ module _ (b : List ℕ) (limit w : ℕ) (fitting : Fitting (rulesOf b limit) (ma
       }
 
   abbrev Fits : State × List Reply → Type 0
-  Fits t = Inside (masks b) (t .0) × All (λ x. x < w) (wordsOf (t .1))
+  Fits t = MasksInside (masks b) (t .0) × All (λ x. x < w) (wordsOf (t .1))
 
-  book-fits : (calls : List Call) → Inside (masks b) (stateAfter b limit calls) × All (λ x. x < w) (wordsOf (repliesOf b limit calls))
+  book-fits : (calls : List Call) → MasksInside (masks b) (stateAfter b limit calls) × All (λ x. x < w) (wordsOf (repliesOf b limit calls))
   book-fits calls = go (settledBook b) refl
     where
-      go : (o : Option (List ℕ)) → settledBook b ≡ o → Inside (masks b) (stateAfter b limit calls) × All (λ x. x < w) (wordsOf (repliesOf b limit calls))
+      go : (o : Option (List ℕ)) → settledBook b ≡ o → MasksInside (masks b) (stateAfter b limit calls) × All (λ x. x < w) (wordsOf (repliesOf b limit calls))
       go none dies = subst⁻¹ Fits (shut-run b limit dies calls) (runs-fit wallless-fitting (shut (rulesOf b limit)) calls shut-inside)
       go (some M) settled =
           subst⁻¹ Fits (live-run b limit M settled calls)
@@ -176,11 +176,6 @@ count-bits f (suc n) =
     bit-most true = omega arith
     bit-most false = omega arith
 
-total-most : (k : ℕ) (M : List ℕ) → ((s : ℕ) → getD M s 0 < 2 ^ k) → total M ≤ k * length M
-unfolding total
-total-most k [] below = omega arith
-total-most k (m ∷ M) below = omega (arith, ones-most k m (below 0), total-most k M (λ s. below (suc s)))
-
 -- the masks, the wall counts and the ones of a book of at most 256 slots, whose masks have 32 bits
 pub book-fitting : (b : List ℕ) (limit : ℕ) → slots b ≤ 256 → ((s : ℕ) → getD (masks b) s 0 < 2 ^ 32) → Fitting (rulesOf b limit) (masks b) 4294967296
 unfolding bind Option·elim
@@ -189,7 +184,7 @@ book-fitting b limit most below =
       numbers = lit< tt;
       settles = λ M N. settled (closedBook b) M N;
       standing = λ kind M v. walls-most (closedBook b) kind M v;
-      ones = λ M within. omega (arith, total-mono M (masks b) within, total-most 32 (masks b) below, length-masks b);
+      ones = λ M within. omega (arith, total-mono M (masks b) within, total-most 32 (masks b) (λ s inside. below s), length-masks b);
       masks = λ M within s. mask-subset-below 32 (record { bits = within .bits s }) (below s);
     }
   where

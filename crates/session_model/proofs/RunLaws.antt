@@ -2,13 +2,15 @@
 -- `run-snoc`), from the opening on (`run-none`, `opened-live`, `opened-dead`); a call inside a list is answered as by one step from the state
 -- after the calls before it (`runs-reply`, `runs-through`); the first word of an answer (`wordsOf-first`). No contract cites this file. Assumes nothing.
 use mathlib.Core.Path.{_≡_, refl, ap, _∙_}
+use mathlib.Core.Logic.{_↔_}
 use mathlib.Core.List.{List, [], _∷_, _++_}
 use mathlib.Core.Option.{none, some}
-use Prim.Native.Nat.{ℕ, zero, suc, _*_, _<_}
+use Prim.Native.Nat.{ℕ, zero, suc, _+_, _*_, _<_}
 use native.Mathlib.Omega.{arith}
 use lib.ListN.{length, getD}
 use Rattle.session_model.specs.Calls.{Call}
 use Rattle.session_model.specs.State.{Rules, State, Reply, live, dead, value, done, refused, words, wordsOf}
+use Rattle.session_model.specs.Demand.{Refused}
 use Rattle.session_model.specs.Machine.{step, runs, wallless, shut, fresh, opened, run}
 
 -- a run, and one call more
@@ -84,10 +86,20 @@ wordsOf-first (r ∷ rs) (suc i) i<m =
     let at : 2 * suc i ≡ suc (suc (2 * i)) = omega arith in
     ap (λ (p : ℕ). getD (words r .0 ∷ words r .1 ∷ wordsOf rs) p 0) at ∙ wordsOf-first rs i (omega arith)
 
--- of the answers dead alone has 1 there
-pub first-word-dead : (r : Reply) → words r .0 ≡ 1 → r ≡ dead
-first-word-dead (live x) one = absurd (omega (arith, one))
-first-word-dead dead one = refl
-first-word-dead (value x) one = absurd (omega (arith, one))
-first-word-dead done one = absurd (omega (arith, one))
-first-word-dead (refused x) one = absurd (omega (arith, one))
+-- of the answers dead alone has 1 there, and a refusal 256 or more
+pub first-word-dead : (r : Reply) → (r ≡ dead) ↔ (words r .0 ≡ 1)
+first-word-dead r = (λ is. ap (λ (a : Reply). words a .0) is, one-dead r)
+  where
+    one-dead : (a : Reply) → words a .0 ≡ 1 → a ≡ dead
+    one-dead (live x) one = absurd (omega (arith, one))
+    one-dead dead one = refl
+    one-dead (value x) one = absurd (omega (arith, one))
+    one-dead done one = absurd (omega (arith, one))
+    one-dead (refused x) one = absurd (omega (arith, one))
+
+pub first-word-unrefused : (r : Reply) → words r .0 < 256 → Refused r → ⊥
+first-word-unrefused (live x) below is = is
+first-word-unrefused dead below is = is
+first-word-unrefused (value x) below is = is
+first-word-unrefused done below is = is
+first-word-unrefused (refused x) below is = omega (arith, below)

@@ -28,7 +28,7 @@ use Rattle.settling_model.proofs.PlansLaws.{singles-allowed, plan-withi
 
 -- ---- SettlesTo, DeadBook
 -- two loosest closed tables have the same bounds
-loosest-bounds : (n k : ℕ) {A T T′ : Table} → Loosest n k A T → Loosest n k A T′ → tableBounds n k T ≡ tableBounds n k T′
+pub loosest-bounds : (n k : ℕ) {A T T′ : Table} → Loosest n k A T → Loosest n k A T′ → tableBounds n k T ≡ tableBounds n k T′
 loosest-bounds n k {A} {T} {T′} one other =
     tableBounds-same n T T′ k (one .loosest T′ (other .closed) (other .within)) (other .loosest T (one .closed) (one .within))
 
@@ -140,12 +140,12 @@ plan-bounds b L U p answer plan v t v<k t≤n =
     let entry = occurs-entry (slots b) p v t t≤n in
     (omega (arith, within .lowers _ inside), omega (arith, within .uppers _ inside))
 
-pub unclosed-no-plan : (b : List ℕ) → closedBook b ≡ none → (p : List ℕ) → BookPlan b p → ⊥
-unclosed-no-plan b answer p plan = none-closed-no-plan plan (closedBook-none b answer)
+pub unclosed-no-plan : (b : List ℕ) → NoneClosed (slots b) (values b) (bookStart b) → (p : List ℕ) → BookPlan b p → ⊥
+unclosed-no-plan b no-table p plan = none-closed-no-plan plan no-table
 
 pub dead-no-plan : (b : List ℕ) → settledBook b ≡ none → (p : List ℕ) → BookPlan b p → ⊥
 dead-no-plan b answer p plan = go (settledBook-dead b answer)
   where
     go : DeadBook b → ⊥
-    go (none-closed no-table) = none-closed-no-plan plan no-table
+    go (none-closed no-table) = unclosed-no-plan b no-table p plan
     go (none-stable T loosest unstable) = unstable-no-plan plan (length-masks b) loosest unstable

@@ -24,8 +24,7 @@ value-at-requires c κs =
 
 only-requires : tie.Need-only-requires Inv-loop μ-loop
 only-requires c κs =
-    let loop = c .before .before .loop in
-    omega (arith, c .value-at .ensures, c .before .before .before .before .pre .values-fit (loop .i) (loop .inv .0) (c .before .loop-test .taken))
+    omega (arith, c .value-at .ensures)
 
 count-requires : tie.Need-count-requires Inv-loop μ-loop
 count-requires c κs =
