@@ -34,12 +34,14 @@ struck-next from i count m v one from≤i so-far fixed one-is = omega (arith, fi
 ones-put : (m v : ℕ) → testBit m v ≡ 0 → ones (m + 2 ^ v) ≡ ones m + 1
 ones-put m v lacks = omega (arith, ones-clearBit (m + 2 ^ v) v, ap ones (clearBit-put m v lacks), testBit-put-same m v lacks)
 
-taken-ones : {n k : ℕ} {trail : List ℕ} {slot v g x : ℕ} {M′ c′ M c : List ℕ} → TakenBack n k trail slot v g x M′ c′ M c → total M ≡ total M′ + 1
+taken-ones : {n k : ℕ} {trail : List ℕ} {slot v g x : ℕ} {M′ c′ M c : List ℕ} → TakenBack n k trail slot v g x M′ c′ M c
+    → total M ≡ total M′ + 1
 taken-ones {slot = slot} {v} {M′ = M′} taken =
     let m = getD M′ slot 0 in
     omega (arith, ap total (taken .masks-are), total-store M′ slot (m + 2 ^ v) (taken .inside), ones-put m v (taken .lacks))
 
-restores-ones : (n k : ℕ) (trail : List ℕ) (from j : ℕ) (M′ c′ M c : List ℕ) → Restores n k trail from j M′ c′ M c → total M ≡ total M′ + j
+restores-ones : (n k : ℕ) (trail : List ℕ) (from j : ℕ) (M′ c′ M c : List ℕ) → Restores n k trail from j M′ c′ M c
+    → total M ≡ total M′ + j
 restores-ones n k trail from zero M′ c′ M c restores = omega (arith, ap total (restores-done n k trail from M′ c′ M c restores .0))
 restores-ones n k trail from (suc j) M′ c′ M c restores =
     let next = restores-next n k trail from j M′ c′ M c restores in

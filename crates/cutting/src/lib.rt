@@ -1,5 +1,5 @@
-// The parts of a decision: the slot cut by an assign or a remove, with all that follows, and what that struck. Nothing is refused here. The contracts cite
-// filter's `specs/Filtered.antt`, and `CutOf`, `Strikes` and `OnesLost` of acts.
+// The parts of a decision: the slot cut by an assign or a remove, with all that follows, and what that struck. The contracts cite filter's
+// `specs/Filtered.antt`, and `CutOf`, `Strikes` and `OnesLost` of acts.
 use filter::fix;
 use filter::strike;
 use outcomes::Outcome;

@@ -6,7 +6,8 @@
 use mathlib.Core.Path.{_≡_, refl, sym, ap, _∙_}
 use mathlib.Core.Logic.{dite}
 use Prim.Native.Nat.{ℕ, zero, suc, _+_, _-_, _*_, _/_, _%_, _^_, _≤_, _<_, zero-le, suc-le-suc}
-use native.Mathlib.Nat.{div-mul-le-self, mul-le-mul-right, le-refl, le-trans, le-antisymm, pow-suc, mul-assoc, div-one, mod-le, mod-eq-of-lt, one-mul, zero-div, div-self, le-of-eq, add-div-right, div-eq-of-lt, lt-of-lt-of-le, zero-add}
+use native.Mathlib.Nat.{le-refl, le-trans, le-antisymm, le-of-eq, lt-of-lt-of-le, zero-add, one-mul, mul-assoc, mul-le-mul-right, pow-suc}
+use native.Mathlib.Nat.{zero-div, div-one, div-self, div-mul-le-self, div-eq-of-lt, add-div-right, mod-le, mod-eq-of-lt}
 use native.Mathlib.Numerals.{one-add}
 use native.Mathlib.Omega.{arith}
 use native.Mathlib.Decide.{ℕ-discrete}
@@ -113,7 +114,9 @@ testBit-clearBit-other m (suc v) (suc w) h =
 
 -- no bit comes in
 pub testBit-clearBit-le : (m v w : ℕ) → testBit (clearBit m v) w ≤ testBit m w
-testBit-clearBit-le m v w = dite (ℕ-discrete w v) (λ e. omega (arith, ap (λ (x : ℕ). testBit (clearBit m v) x) e, testBit-clearBit-same m v)) (λ h. le-of-eq (testBit-clearBit-other m v w h))
+testBit-clearBit-le m v w =
+    dite (ℕ-discrete w v) (λ same. omega (arith, ap (λ (x : ℕ). testBit (clearBit m v) x) same, testBit-clearBit-same m v))
+    (λ other. le-of-eq (testBit-clearBit-other m v w other))
 
 -- ---- a value put in
 

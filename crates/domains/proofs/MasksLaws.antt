@@ -15,7 +15,8 @@ use lib.Seq.{ext-getD, getD-set-same, getD-set-other}
 use lib.Count.{ones, ones-le}
 use Rattle.domains.specs.Mask.{testBit, clearBit}
 use Rattle.domains.specs.Masks.{HasAt, FixedAt, Alive, Subset, total}
-use Rattle.domains.proofs.MaskLaws.{testBit-lt, testBit-empty, testBit-ext, testBit-clearBit-le, ones-clearBit, ones-subset, ones-same, fixed-has, fixed-within}
+use Rattle.domains.proofs.MaskLaws.{testBit-lt, testBit-empty, testBit-ext, testBit-clearBit-le}
+use Rattle.domains.proofs.MaskLaws.{ones-clearBit, ones-subset, ones-same, fixed-has, fixed-within}
 
 -- ---- HasAt, FixedAt
 -- past the end no slot has a value

@@ -60,7 +60,7 @@ bytesOf-more w xs i i<m =
     ∙ bytesOf-append w (take i xs) (getD xs i 0 ∷ [])
     ∙ ap (λ (r : List ℕ). bytesOf w (take i xs) ++ r) (bytesOf-one w (getD xs i 0))
 
--- byte j of element i, whatever stands behind the elements
+-- byte j of element i, whatever comes behind the elements
 pub bytesOf-byte : (w : ℕ) (xs rest : List ℕ) (i j : ℕ) → i < length xs → j < w
     → getD (bytesOf w xs ++ rest) (w * i + j) 0 ≡ getD (digits w (getD xs i 0)) j 0
 unfolding bytesOf
@@ -88,7 +88,8 @@ written-none w xs out =
     record { within = omega arith; long = refl; front = rw (bytesOf-empty w, mul-zero w) }
 
 -- w bytes stored behind a front, at the place where it ends
-sets-behind : (w at : ℕ) (front new out : List ℕ) → length front ≡ at → length new ≡ w → at + w ≤ length out → sets (front ++ drop at out) at new ≡ front ++ new ++ drop (at + w) out
+sets-behind : (w at : ℕ) (front new out : List ℕ) → length front ≡ at → length new ≡ w → at + w ≤ length out
+    → sets (front ++ drop at out) at new ≡ front ++ new ++ drop (at + w) out
 sets-behind w at front new out long wide fits =
     let inside : at + length new ≤ length (front ++ drop at out) = omega (arith, length-append front (drop at out), length-drop at out) in
     let rest : drop (at + length new) (front ++ drop at out) ≡ drop (at + w) out =
@@ -96,7 +97,8 @@ sets-behind w at front new out long wide fits =
     in
     sets-eq new (front ++ drop at out) at inside ∙ rw (take-at front (drop at out) at long, rest)
 
-pub written-more : (w : ℕ) {xs out : List ℕ} (i : ℕ) {s s′ : List ℕ} → i < length xs → w * length xs ≤ length out → Written w xs out i s → s′ ≡ sets s (w * i) (digits w (getD xs i 0)) → Written w xs out (i + 1) s′
+pub written-more : (w : ℕ) {xs out : List ℕ} (i : ℕ) {s s′ : List ℕ} → i < length xs → w * length xs ≤ length out → Written w xs out i s
+    → s′ ≡ sets s (w * i) (digits w (getD xs i 0)) → Written w xs out (i + 1) s′
 written-more w {xs} {out} i {s} {s′} i<m fits written stored =
     let long : length (bytesOf w (take i xs)) ≡ w * i = length-bytesOf w (take i xs) ∙ ap (λ (j : ℕ). w * j) (length-take-le i xs (omega arith)) in
     let room : w * (i + 1) ≤ length out = le-trans (mul-le-mul-left w (omega arith)) fits in

@@ -8,11 +8,11 @@
 --   dead-decision-no-plan                        no plan meets a decision that was answered dead and those then in force
 -- Assumes nothing.
 use mathlib.Core.Path.{_≡_, refl, sym, ap, _∙_, subst⁻¹}
-use mathlib.Core.List.{List, [], _∷_}
+use mathlib.Core.List.{List, []}
 use mathlib.Core.Option.{Option, none, some}
-use Prim.Native.Nat.{ℕ, zero, suc, _+_, _*_, _<_}
+use Prim.Native.Nat.{ℕ, zero, suc, _*_, _<_}
 use native.Mathlib.Omega.{arith}
-use lib.ListN.{length, length-append}
+use lib.ListN.{length}
 use Rattle.domains.specs.Masks.{Subset}
 use Rattle.book.specs.Layout.{slots, values, masks, rows}
 use Rattle.book.proofs.LayoutLaws.{length-masks}
@@ -30,7 +30,7 @@ use Rattle.settling_model.proofs.PlansLaws.{plan-within}
 use Rattle.settling_model.proofs.BookLaws.{closedBook-loosest, closedBook-lengths, closedBook-none, unclosed-no-plan}
 use Rattle.settling_model.proofs.BookLaws.{settledBook-settles, settledBook-dead, settles-settledBook, dead-settledBook, plan-kept-at, dead-no-plan}
 use Rattle.settle_fault.specs.Settle.{settledOf, settleGood, settleOf, Settles}
-use Rattle.session_model.specs.BookRun.{rulesOf, stateAfter, repliesOf, forceAfter}
+use Rattle.session_model.specs.BookRun.{stateAfter, forceAfter}
 use Rattle.session_model.specs.Calls.{decide, callsOf}
 use Rattle.session_model.specs.Demand.{answerTo, PlanMeets, Demand3}
 use Rattle.session_model.specs.Machine.{fresh, runs}
@@ -38,8 +38,9 @@ use Rattle.session_model.specs.State.{State, Reply, words}
 use Rattle.session_model.proofs.BookRunLaws.{live-run}
 use Rattle.session_model.proofs.DeadOpeningLaws.{dead-opening}
 use Rattle.session_model.proofs.DemandLaws.{demand3}
+use Rattle.session_model.proofs.OutputLaws.{answer-word}
 use Rattle.session_model.proofs.PlanLaws.{demand-plan-kept, demand-plan-at, demand-dead-no-plan}
-use Rattle.session_model.proofs.RunLaws.{length-run, length-wordsOf, wordsOf-first, first-word-dead, first-word-unrefused}
+use Rattle.session_model.proofs.RunLaws.{first-word-dead, first-word-unrefused}
 use Rattle.session_fault.specs.Entry as Session
 use Rattle.session_fault.specs.Entry.{mostMarks, openedWord, sessionGood, sessionOf, SessionRan}
 use Rattle.entries_model.specs.Entries.{CloseEntry, SettleEntry, SessionEntry}
@@ -48,16 +49,20 @@ use Rattle.entries_model.specs.Meaning.{closeNumber, CloseMeans, settleN
 use Rattle.entries_model.specs.Meaning.{WithinBounds, WithinMasks, SessionPlans, DeadPlanless}
 use Rattle.entries_model.proofs.WidthLaws.{close-fits, settle-fits, session-words-fit, session-masks-fit, read16-written, read32-written}
 
+-- what holds of two values holds of two that are equal to them
+at-both : {B : Type 0} (P : ℕ → B → Type 0) {f f′ : ℕ} {o o′ : B} → f ≡ f′ → o ≡ o′ → P f′ o′ → P f o
+at-both {B} P {f} {f′} {o} {o′} same same′ done = subst⁻¹ (λ (x : ℕ). P x o) same (subst⁻¹ (λ (y : B). P f′ y) same′ done)
+
 -- ---- close
 module _ (b L U : List ℕ) (r : ℕ) (L′ U′ : List ℕ) where
-  abbrev Closed-as : ℕ → Option (List ℕ × List ℕ) → Type 0
-  Closed-as f o = Closes (bytesOf 2) (unless f (outcomeOf (entries b) o)) r L U L′ U′
+  abbrev ClosedAs : ℕ → Option (List ℕ × List ℕ) → Type 0
+  ClosedAs f o = Closes (bytesOf 2) (unless f (outcomeOf (entries b) o)) r L U L′ U′
 
   pub close-means : CloseEntry b L U r L′ U′ → CloseMeans b L U r L′ U′
   unfolding closeOf closeGood bytesOf
   close-means entry = go (closeNumber b L U) refl (closedBook b) refl entry
     where
-      go : (f : ℕ) → closeNumber b L U ≡ f → (o : Option (List ℕ × List ℕ)) → closedBook b ≡ o → Closed-as f o → CloseMeans b L U r L′ U′
+      go : (f : ℕ) → closeNumber b L U ≡ f → (o : Option (List ℕ × List ℕ)) → closedBook b ≡ o → ClosedAs f o → CloseMeans b L U r L′ U′
       go (suc x) is o closed closes = Meaning.refuses x is (closes .answers) (closes .lowers) (closes .uppers)
       go zero is none closed closes = Meaning.dies is (closedBook-none b closed) (closes .answers) (closes .lowers) (closes .uppers)
       go zero is (some T) closed closes =
@@ -69,20 +74,17 @@ module _ (b L U : List ℕ) (r : ℕ) (L′ U′ : List ℕ) where
   unfolding closeOf closeGood bytesOf
   means-close means = go means
     where
-      by : (f : ℕ) → closeNumber b L U ≡ f → (o : Option (List ℕ × List ℕ)) → closedBook b ≡ o → Closed-as f o → CloseEntry b L U r L′ U′
-      by f is o closed done =
-          subst⁻¹ (λ (f : ℕ). Closed-as f (closedBook b)) is (subst⁻¹ (λ (o : Option (List ℕ × List ℕ)). Closed-as f o) closed done)
-
       go : CloseMeans b L U r L′ U′ → CloseEntry b L U r L′ U′
-      go (Meaning.refuses x is answer lowers uppers) = by (suc x) is (closedBook b) refl (record { answers = answer; lowers = lowers; uppers = uppers })
+      go (Meaning.refuses x is answer lowers uppers) =
+          at-both ClosedAs {o = closedBook b} is refl (record { answers = answer; lowers = lowers; uppers = uppers })
       go (Meaning.dies is no-table answer lowers uppers) =
           let long = start-lowers-length (slots b) (values b) (rows b) in
           let long′ = start-uppers-length (slots b) (values b) (rows b) in
-          by 0 is none (none-closing (slots b) (values b) _ _ long long′ no-table) (record { answers = answer; lowers = lowers; uppers = uppers })
+          at-both ClosedAs is (none-closing (slots b) (values b) _ _ long long′ no-table) (record { answers = answer; lowers = lowers; uppers = uppers })
       go (Meaning.lives is A B long-A long-B loosest answer lowers uppers) =
           let long = start-lowers-length (slots b) (values b) (rows b) in
           let long′ = start-uppers-length (slots b) (values b) (rows b) in
-          by 0 is (some (A, B)) (loosest-closing (slots b) (values b) _ _ long long′ A B long-A long-B loosest)
+          at-both ClosedAs is (loosest-closing (slots b) (values b) _ _ long long′ A B long-A long-B loosest)
           (record { answers = answer; lowers = lowers; uppers = uppers })
 
   pub close-dead-no-plan : CloseEntry b L U r L′ U′ → r ≡ 1 → (p : List ℕ) → BookPlan b p → ⊥
@@ -111,14 +113,14 @@ module _ (b L U : List ℕ) (r : ℕ) (L′ U′ : List ℕ) where
 
 -- ---- settle
 module _ (b M : List ℕ) (r : ℕ) (M′ : List ℕ) where
-  abbrev Settled-as : ℕ → Option (List ℕ) → Type 0
-  Settled-as f o = Settles (bytesOf 4) (unless f (settledOf (slots b) o)) r M M′
+  abbrev SettledAs : ℕ → Option (List ℕ) → Type 0
+  SettledAs f o = Settles (bytesOf 4) (unless f (settledOf (slots b) o)) r M M′
 
   pub settle-means : SettleEntry b M r M′ → SettleMeans b M r M′
   unfolding settleOf settleGood bytesOf
   settle-means entry = go (settleNumber b M) refl (settledBook b) refl entry
     where
-      go : (f : ℕ) → settleNumber b M ≡ f → (o : Option (List ℕ)) → settledBook b ≡ o → Settled-as f o → SettleMeans b M r M′
+      go : (f : ℕ) → settleNumber b M ≡ f → (o : Option (List ℕ)) → settledBook b ≡ o → SettledAs f o → SettleMeans b M r M′
       go (suc x) is o settled settles = Meaning.refuses x is (settles .answers) (settles .masks)
       go zero is none settled settles = Meaning.dies is (settledBook-dead b settled) (settles .answers) (settles .masks)
       go zero is (some N) settled settles = Meaning.lives is N (settledBook-settles b N settled) (settles .answers) (settles .masks)
@@ -127,13 +129,10 @@ module _ (b M : List ℕ) (r : ℕ) (M′ : List ℕ) where
   unfolding settleOf settleGood bytesOf
   means-settle means = go means
     where
-      by : (f : ℕ) → settleNumber b M ≡ f → (o : Option (List ℕ)) → settledBook b ≡ o → Settled-as f o → SettleEntry b M r M′
-      by f is o settled done = subst⁻¹ (λ (f : ℕ). Settled-as f (settledBook b)) is (subst⁻¹ (λ (o : Option (List ℕ)). Settled-as f o) settled done)
-
       go : SettleMeans b M r M′ → SettleEntry b M r M′
-      go (Meaning.refuses x is answer written) = by (suc x) is (settledBook b) refl (record { answers = answer; masks = written })
-      go (Meaning.dies is dies answer written) = by 0 is none (dead-settledBook b dies) (record { answers = answer; masks = written })
-      go (Meaning.lives is N settles answer written) = by 0 is (some N) (settles-settledBook b N settles) (record { answers = answer; masks = written })
+      go (Meaning.refuses x is answer written) = at-both SettledAs {o = settledBook b} is refl (record { answers = answer; masks = written })
+      go (Meaning.dies is dies answer written) = at-both SettledAs is (dead-settledBook b dies) (record { answers = answer; masks = written })
+      go (Meaning.lives is N settles answer written) = at-both SettledAs is (settles-settledBook b N settles) (record { answers = answer; masks = written })
 
   pub settle-dead-no-plan : SettleEntry b M r M′ → r ≡ 1 → (p : List ℕ) → BookPlan b p → ⊥
   settle-dead-no-plan entry dead p plan = go (settle-means entry)
@@ -171,14 +170,14 @@ pub session-plan-kept : (b calls p : List ℕ) → BookPlan b p → PlanMeets p 
 session-plan-kept b calls p plan = demand-plan-kept b p plan mostMarks (callsOf calls) (plan-demand3 b calls p plan)
 
 module _ (b calls A M : List ℕ) (r : ℕ) (A′ M′ : List ℕ) where
-  abbrev Ran-as : ℕ → Option (List ℕ) → Type 0
-  Ran-as f o = SessionRan (bytesOf 4) (Session.unless f (Session.ran (openedWord o) (sessionWords b calls) (sessionMasks b calls))) r A M A′ M′
+  abbrev RanAs : ℕ → Option (List ℕ) → Type 0
+  RanAs f o = SessionRan (bytesOf 4) (Session.unless f (Session.ran (openedWord o) (sessionWords b calls) (sessionMasks b calls))) r A M A′ M′
 
   pub session-means : SessionEntry b calls A M r A′ M′ → SessionMeans b calls A M r A′ M′
   unfolding sessionOf sessionGood bytesOf
   session-means entry = go (sessionNumber b calls A M) refl (settledBook b) refl entry
     where
-      go : (f : ℕ) → sessionNumber b calls A M ≡ f → (o : Option (List ℕ)) → settledBook b ≡ o → Ran-as f o → SessionMeans b calls A M r A′ M′
+      go : (f : ℕ) → sessionNumber b calls A M ≡ f → (o : Option (List ℕ)) → settledBook b ≡ o → RanAs f o → SessionMeans b calls A M r A′ M′
       go (suc x) is o opened ran = Meaning.refuses x is (ran .answers) (ran .words) (ran .masks)
       go zero is none opened ran =
           let shut = dead-opening b mostMarks opened (callsOf calls) in
@@ -192,16 +191,13 @@ module _ (b calls A M : List ℕ) (r : ℕ) (A′ M′ : List ℕ) where
   unfolding sessionOf sessionGood bytesOf
   means-session means = go means
     where
-      by : (f : ℕ) → sessionNumber b calls A M ≡ f → (o : Option (List ℕ)) → settledBook b ≡ o → Ran-as f o → SessionEntry b calls A M r A′ M′
-      by f is o settled done = subst⁻¹ (λ (f : ℕ). Ran-as f (settledBook b)) is (subst⁻¹ (λ (o : Option (List ℕ)). Ran-as f o) settled done)
-
       go : SessionMeans b calls A M r A′ M′ → SessionEntry b calls A M r A′ M′
-      go (Meaning.refuses x is answer words masks) = by (suc x) is (settledBook b) refl (record { answers = answer; words = words; masks = masks })
+      go (Meaning.refuses x is answer words masks) = at-both RanAs {o = settledBook b} is refl (record { answers = answer; words = words; masks = masks })
       go (Meaning.opens-dead is dies answer claim words masks) =
           let same = sym (ap (λ (S : State). overlay (bytesOf 4 (S .masks)) M) (claim .state)) in
-          by 0 is none (dead-settledBook b dies) (record { answers = answer; words = words; masks = masks ∙ same })
+          at-both RanAs is (dead-settledBook b dies) (record { answers = answer; words = words; masks = masks ∙ same })
       go (Meaning.opens-live is N settles opening answer claim words masks) =
-          by 0 is (some N) (settles-settledBook b N settles) (record { answers = answer; words = words; masks = masks })
+          at-both RanAs is (settles-settledBook b N settles) (record { answers = answer; words = words; masks = masks })
 
   pub session-dead-no-plan : SessionEntry b calls A M r A′ M′ → r ≡ 1 → (p : List ℕ) → BookPlan b p → ⊥
   session-dead-no-plan entry dead p plan = go (session-means entry)
@@ -231,12 +227,9 @@ module _ (b calls A M : List ℕ) (r : ℕ) (A′ M′ : List ℕ) where
       go (Meaning.refuses x is answer words masks) = omega (arith, answer, unrefused)
       go (Meaning.opens-dead is dies answer claim words masks) = dead-no-plan b (dead-settledBook b dies) p plan
       go (Meaning.opens-live is N settles opening answer claim words-are masks-are) =
-          let replies = repliesOf b mostMarks (callsOf calls) in
-          let all : length replies ≡ length before + suc (length rest) = length-run (rulesOf b mostMarks) (masks b) (callsOf calls) ∙ ap length at
-          ∙ length-append before (decide d ∷ rest) in
-          let inside : 2 * length before < length (sessionWords b calls) = omega (arith, length-wordsOf replies, all) in
-          let read = read32-written (sessionWords b calls) A (2 * length before) inside (session-words-fit b calls A M is _ inside) in
+          let said = answer-word b mostMarks (callsOf calls) before rest (decide d) at in
+          let read = read32-written (sessionWords b calls) A (2 * length before) (said .0) (session-words-fit b calls A M is _ (said .0)) in
           let reply = answerTo b mostMarks (callsOf calls) before in
-          let word : words reply .0 ≡ 1 = sym (wordsOf-first replies (length before) (omega (arith, all))) ∙ sym read ∙ (rw words-are at one) in
+          let word : words reply .0 ≡ 1 = sym (said .1) ∙ sym read ∙ (rw words-are at one) in
           demand-dead-no-plan b p plan mostMarks (callsOf calls) claim before rest d at (first-word-unrefused reply (omega (arith, word)))
           (first-word-dead reply .1 word) meets

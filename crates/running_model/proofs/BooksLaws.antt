@@ -1,21 +1,25 @@
--- The laws of `specs/BookRan.antt`: a session opened live (`opens-live`) or dead (`opens-dead`), and a list run from there (`book-ran`); by the way
--- the laws of `specs/EngineDemand.antt`: the machine's claim holds of the engine, since its cells mirror the book's closed table and its masks
+-- The laws of `specs/BookRan.antt`: a session opened live (`opens-live`) or dead (`opens-dead`), and a list run from there (`book-ran`). The
+-- laws of `specs/EngineDemand.antt`: the machine's claim holds of the engine, since its cells mirror the book's closed table and its masks
 -- (`engine-demand3`, `bookran-mirror`). No contract cites this file. Assumes nothing.
 use mathlib.Core.Path.{_≡_, refl, sym, ap, _∙_, subst, subst⁻¹}
 use mathlib.Core.Bool.{Bool, true, false, not}
 use mathlib.Core.Logic.{_↔_}
 use mathlib.Core.List.{List, [], _∷_}
 use mathlib.Core.Option.{Option, none, some}
-use Prim.Native.Nat.{ℕ, suc, _+_, _*_, _≤_, _<_}
+use Prim.Native.Nat.{ℕ, suc, _*_, _≤_, _<_}
 use native.Mathlib.Omega.{arith}
-use lib.ListN.{length, drop, replicate, length-append, List·getD-append}
+use lib.ListN.{length, getD, drop, replicate, List·getD-append}
 use Rattle.book.specs.Layout as Layout
 use Rattle.closing_model.specs.Table.{Table, view}
+use Rattle.closing.specs.Close.{overlay}
 use Rattle.settling_model.specs.Book.{closedBook, settledBook}
 use Rattle.settling_model.specs.Settling.{settling}
 use Rattle.settling_model.specs.Stable.{Bound, tableBounds}
 use Rattle.settling_model.proofs.BookLaws.{closedBook-loosest, loosest-bounds}
 use Rattle.settling_model.proofs.SettlingLaws.{settling-largest}
+use Rattle.segments_model.specs.Cells.{Stands}
+use Rattle.segments_model.specs.Lines.{cornerOf, slackOf, Segments}
+use Rattle.segments_model.specs.Links.{gaps}
 use Rattle.segments_model.proofs.SlackLaws.{segments-stands, segments-holds}
 use Rattle.filter_model.specs.Mirror.{Mirror}
 use Rattle.outcomes.specs.declared.Outcome.{Outcome}
@@ -35,14 +39,14 @@ use Rattle.session_model.specs.Walls.{Wall}
 use Rattle.session_model.proofs.BookRunLaws.{rulesOf-settle, rulesOf-closed, rulesOf-standing, settled-closed}
 use Rattle.session_model.proofs.DeadOpeningLaws.{dead-opening}
 use Rattle.session_model.proofs.DemandLaws.{demand3}
-use Rattle.session_model.proofs.RunLaws.{opened-live, opened-dead, length-run, length-wordsOf, wordsOf-first, first-word-dead, first-word-unrefused}
+use Rattle.session_model.proofs.OutputLaws.{answer-word}
+use Rattle.session_model.proofs.RunLaws.{opened-live, opened-dead, first-word-dead, first-word-unrefused}
 use Rattle.running_model.specs.BookRan.{tableOf, bookTable, openedRules, openedState, opensLive, Openable, Opens, BookRan}
-use Rattle.closing.specs.Close.{overlay}
-use Rattle.running_model.specs.declared.Ended.{Ended}
 use Rattle.running_model.specs.EngineDemand.{EndsAt, firstWord, EngineDemand3}
 use Rattle.acts.specs.Given.{standingOf, isShut}
 use Rattle.acts.specs.Represents.{Room, Working, Represents, Running}
 use Rattle.running_model.specs.Runs.{Runs}
+use Rattle.running_model.specs.declared.Ended.{Ended}
 use Rattle.acts.specs.declared.Session.{Session}
 use Rattle.acts.specs.declared.Standing.{Standing}
 use Rattle.acts.specs.declared.Standing.the-variants.{OpenedDead, Live, Dead}
@@ -76,8 +80,8 @@ module _ {b m c t L U m′ c′ t′ : List ℕ} (openable : Openable b m c t L 
       let k = Layout.values b in
       let T = view (state .lowers) (state .uppers) in
       let closes = state .closed in
-      let settles : settling (tableBounds n k T) (Layout.masks b) ≡ some m′ = sym (rulesOf-closed b limit (state .lowers) (state .uppers) closes (Layout.masks b))
-      ∙ rulesOf-settle b limit ∙ state .settled in
+      let settles : settling (tableBounds n k T) (Layout.masks b) ≡ some m′ =
+      sym (rulesOf-closed b limit (state .lowers) (state .uppers) closes (Layout.masks b)) ∙ rulesOf-settle b limit ∙ state .settled in
       subst⁻¹ (λ (X : Table). Working X (rulesOf b limit) [] m′ c′ t′ heights n k h) (bookTable-closed b (state .lowers) (state .uppers) closes)
       (record {
         rules =
@@ -193,27 +197,23 @@ run-opened b M limit calls standing settles is =
     ∙ standFrom-opened (Model.opening (settledBook b)) 0 calls (repliesOf b limit calls) (ap (λ (o : Option (List ℕ)). shutModel (Model.opening o)) settles)
 
 -- ---- EngineDemand3
+segments-walls : {kind : Bool} {n : ℕ} {line : ℕ → ℕ} {M : List ℕ} {v : ℕ} {row : List ℕ} → Segments kind n line M v row → (t : ℕ) → 0 < t → t ≤ n
+    → (0 < getD (gaps row) t 0) ↔ Stands n (cornerOf kind n line) (slackOf kind line M v) t
+segments-walls row t from upto = (segments-stands row t from upto, segments-holds row t from upto)
+
 mirror-walls : {n k : ℕ} {T : Table} {M cells : List ℕ} → Mirror n k T M cells → (kind : Bool) (v t : ℕ) → v < k → 0 < t → t ≤ n
     → EndsAt kind n k v cells t ↔ Wall kind n T M v t
-mirror-walls mirror true v t v<k from upto =
-    let row = mirror .rows true v v<k in
-    (segments-stands row t from upto, segments-holds row t from upto)
-mirror-walls mirror false v t v<k from upto =
-    let row = mirror .rows false v v<k in
-    (segments-stands row t from upto, segments-holds row t from upto)
+mirror-walls mirror true v t v<k from upto = segments-walls (mirror .rows true v v<k) t from upto
+mirror-walls mirror false v t v<k from upto = segments-walls (mirror .rows false v v<k) t from upto
 
 -- the first word of a call in the answers is that of the machine's answer to it
-answer-word : (b calls : List ℕ) (limit : ℕ) (answers answers′ : List ℕ) → answers′ ≡ overlay (wordsOf (repliesOf b limit (callsOf calls))) answers
+engine-word : (b calls : List ℕ) (limit : ℕ) (answers answers′ : List ℕ) → answers′ ≡ overlay (wordsOf (repliesOf b limit (callsOf calls))) answers
     → (before rest : List Call) (c : Call) → At (callsOf calls) before c rest
     → firstWord answers′ before ≡ words (answerTo b limit (callsOf calls) before) .0
-answer-word b calls limit answers answers′ written before rest c at =
-    let replies = repliesOf b limit (callsOf calls) in
-    let all : length replies ≡ length before + suc (length rest) = length-run (rulesOf b limit) (Layout.masks b) (callsOf calls) ∙ ap length at
-    ∙ length-append before (c ∷ rest) in
-    let inside : 2 * length before < length (wordsOf replies) = omega (arith, length-wordsOf replies, all) in
-    ap (λ (l : List ℕ). firstWord l before) written
-    ∙ List·getD-append (wordsOf replies) (drop (length (wordsOf replies)) answers) 0 (2 * length before) inside
-    ∙ wordsOf-first replies (length before) (omega (arith, all))
+engine-word b calls limit answers answers′ written before rest c at =
+    let said = wordsOf (repliesOf b limit (callsOf calls)) in
+    let word = answer-word b limit (callsOf calls) before rest c at in
+    ap (λ (l : List ℕ). firstWord l before) written ∙ List·getD-append said (drop (length said) answers) 0 (2 * length before) (word .0) ∙ word .1
 
 -- the machine's claim, over the engine's answers and masks, and the cells that mirror the closed table and them
 engine-demand3 : (b calls : List ℕ) (limit : ℕ) (L U answers answers′ masks cells : List ℕ) → closedBook b ≡ some (L, U)
@@ -233,7 +233,7 @@ engine-demand3 b calls limit L U answers answers′ masks cells closes claim wri
       walls = mirror-walls mirror;
       dies = λ before rest d at unrefused.
           let reply = answerTo b limit (callsOf calls) before in
-          let word = answer-word b calls limit answers answers′ written before rest (decide d) at in
+          let word = engine-word b calls limit answers answers′ written before rest (decide d) at in
           let dead-word = first-word-dead reply in
           let exactly = claim .dies before rest d at (first-word-unrefused reply (rw word at unrefused)) in (
             λ one-word. subst (λ (bs : List Bound). UnstableUnder bs (Layout.masks b) (d ∷ forceAfter b limit before)) same

@@ -1,23 +1,25 @@
--- How much a session's run holds, whatever the book and the calls: two words a call (`length-words`), a mask for each slot (`length-masks-after`),
--- and no more open marks than the limit (`saved-limit`). No contract cites this file. Assumes nothing.
+-- How much a session's run holds, whatever the book and the calls: two words a call (`length-words`), the first of them at twice the call's place
+-- (`answer-word`), a mask for each slot (`length-masks-after`), and no more open marks than the limit (`saved-limit`). No contract cites this file.
+-- Assumes nothing.
 use mathlib.Core.Path.{_≡_, refl, ap, _∙_}
 use mathlib.Core.List.{List, [], _∷_}
 use mathlib.Core.Option.{Option, none, some}
-use Prim.Native.Nat.{ℕ, _*_, _≤_, zero-le}
+use Prim.Native.Nat.{ℕ, suc, _+_, _*_, _≤_, _<_, zero-le}
 use native.Mathlib.Omega.{arith}
-use lib.ListN.{length, length-replicate}
+use lib.ListN.{length, getD, length-append, length-replicate}
 use borrow.Author.Tests.{leb-false}
 use Rattle.book.specs.Layout.{slots, masks}
 use Rattle.book.proofs.LayoutLaws.{length-masks}
 use Rattle.settling_model.specs.Book.{settledBook}
 use Rattle.session_model.specs.Decisions.{cut}
 use Rattle.session_model.specs.Calls.{Call, decide, mark, back, show, walls, unknown}
-use Rattle.session_model.specs.State.{Rules, State, wordsOf}
+use Rattle.session_model.specs.State.{Rules, State, words, wordsOf}
 use Rattle.session_model.specs.Refusal.{Refusal, marksFull, refusal}
 use Rattle.session_model.specs.Machine.{decided, restored, act, step, runs, opened, run}
 use Rattle.session_model.specs.BookRun.{rulesOf, stateAfter, repliesOf}
+use Rattle.session_model.specs.Demand.{At, answerTo}
 use Rattle.session_model.proofs.OrderLaws.{none-applies-not}
-use Rattle.session_model.proofs.RunLaws.{length-run, length-wordsOf}
+use Rattle.session_model.proofs.RunLaws.{length-run, length-wordsOf, wordsOf-first}
 use Rattle.session_model.proofs.StepLaws.{step-refused, step-acts}
 use Rattle.session_model.proofs.BookRunLaws.{settled-closed}
 use Rattle.session_model.proofs.LiveLaws.{live-kept}
@@ -27,6 +29,16 @@ module _ (b : List ℕ) (limit : ℕ) (calls : List Call) where
   -- ---- words and masks
   pub length-words : length (wordsOf (repliesOf b limit calls)) ≡ 2 * length calls
   length-words = length-wordsOf (repliesOf b limit calls) ∙ ap (λ (m : ℕ). 2 * m) (length-run (rulesOf b limit) (masks b) calls)
+
+  -- the first word of the call that comes after the calls `before`
+  pub answer-word : (before rest : List Call) (c : Call) → At calls before c rest
+      → (2 * length before < length (wordsOf (repliesOf b limit calls)))
+      × (getD (wordsOf (repliesOf b limit calls)) (2 * length before) 0 ≡ words (answerTo b limit calls before) .0)
+  answer-word before rest c at =
+      let all : length calls ≡ length before + suc (length rest) = ap length at ∙ length-append before (c ∷ rest) in (
+        omega (arith, length-words, all),
+        wordsOf-first (repliesOf b limit calls) (length before) (omega (arith, length-run (rulesOf b limit) (masks b) calls, all)),
+      )
 
   pub length-masks-after : length (stateAfter b limit calls .masks) ≡ slots b
   length-masks-after = go (settledBook b) refl

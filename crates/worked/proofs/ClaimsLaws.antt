@@ -21,7 +21,8 @@ use Rattle.session_model.specs.Calls.{callsOf}
 use Rattle.session_model.specs.Demand.{Demand3, DeadOpening}
 use Rattle.session_model.proofs.DemandLaws.{demand3}
 use Rattle.session_model.proofs.DeadOpeningLaws.{dead-opening}
-use Rattle.worked.specs.Claims.{Side, boundOf, lineOf, Claim, closes, dead, settles, noPlan, hasPlan, session, limits, mostMarks, openWord, wordsSaid, lastMasks, holds, HasLine, RunsTo, Means, passes, every, Says}
+use Rattle.worked.specs.Claims.{Side, boundOf, lineOf, Claim, closes, dead, settles, noPlan, hasPlan, session, limits, mostMarks}
+use Rattle.worked.specs.Claims.{openWord, wordsSaid, lastMasks, holds, HasLine, RunsTo, Means, passes, every, Says}
 use Rattle.worked.proofs.PlanTestLaws.{planOf-plan, planless-no-plan}
 
 -- ---- holds

@@ -32,7 +32,11 @@ use Rattle.worked.specs.WorkedTable.{table, workedTable}
 use Rattle.worked.proofs.ClaimsLaws.{every-says}
 
 pub worked-table : workedTable ≡ true
-unfolding bind Option·elim ones total testBit clearBit count only listOf firstOf headerFault maskFault rowFault refusal others lowOf highOf startLowers startUppers newLower newUpper stepLowers stepUppers crossed same closingWithin listSum closing lineBounds tableBounds fixTo strikeUnfixed mapBefore cutIf cutLow cutHigh pass settlingPasses fixpoint noneEmpty noneBroken settling settledBook standsAt keepOnly cut callOf wordsOf first callRefusal decided restored act stepBy step runs opened run each bookOf is allBelow noList keepsRow keepsRows isPlan planOf planless holds passes every
+unfolding bind Option·elim ones total testBit clearBit count only listOf firstOf headerFault maskFault rowFault refusal others lowOf highOf
+    startLowers startUppers newLower newUpper stepLowers stepUppers crossed same closingWithin listSum closing lineBounds tableBounds fixTo
+    strikeUnfixed mapBefore cutIf cutLow cutHigh pass settlingPasses fixpoint noneEmpty noneBroken settling settledBook standsAt keepOnly cut callOf
+    wordsOf first callRefusal decided restored act stepBy step runs opened run each bookOf is allBelow noList keepsRow keepsRows isPlan planOf
+    planless holds passes every
 worked-table = refl
 
 pub worked-says : All Says table

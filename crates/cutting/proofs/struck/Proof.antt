@@ -35,8 +35,9 @@ add-count c =
     let loop = c .before .before .before .before .loop in
     let pre = c .before .before .before .before .before .before .pre in
     let only = c .before .only in
-    let next = struck-next (c .before .before .before .before .before .before .args .from) (loop .i) (loop .count) (only .result) (c .before .before .value-at .result) (c .count .result)
-    (loop .inv .0) (loop .inv .2) (only .ensures) (c .count .ensures) in
+    let from = c .before .before .before .before .before .before .args .from in
+    let v = c .before .before .value-at .result in
+    let next = struck-next from (loop .i) (loop .count) (only .result) v (c .count .result) (loop .inv .0) (loop .inv .2) (only .ensures) (c .count .ensures) in
     omega (arith, next, c .before .before .before .loop-test .taken, pre .upto, pre .heights-fit)
 
 add-i : tie.Need-add-i Inv-loop μ-loop
@@ -52,8 +53,9 @@ loop-again : tie.Need-loop-again Inv-loop μ-loop
 loop-again c =
     let loop = c .before .before .before .before .loop in
     let only = c .before .only in
-    let next = struck-next (c .before .before .before .before .before .before .args .from) (loop .i) (loop .count) (only .result) (c .before .before .value-at .result) (c .count .result)
-    (loop .inv .0) (loop .inv .2) (only .ensures) (c .count .ensures) in
+    let from = c .before .before .before .before .before .before .args .from in
+    let v = c .before .before .value-at .result in
+    let next = struck-next from (loop .i) (loop .count) (only .result) v (c .count .result) (loop .inv .0) (loop .inv .2) (only .ensures) (c .count .ensures) in
     (omega (arith, loop .inv .0), omega (arith, c .before .before .before .loop-test .taken), next)
 
 returns : tie.Need-returns Inv-loop μ-loop
