@@ -1,8 +1,23 @@
-// The exported entries: thin forms over bytes, for a host written in C or Rust. A slice crosses as a pointer and a length. No entry has a
-// premise: each takes every slice of every length, and answers 0 (live; of check: a good book), 1 (dead) or 256 + the number of a refusal.
-// The contracts cite entries_model's `specs/Entries.antt`.
+// The exported entries: thin forms, for a host written in C or Rust. A slice crosses as a pointer and a length. Check, close, settle, session and
+// open have no premise: each takes every slice of every length, and answers 0 (live; of check: a good book), 1 (dead) or 256 + the number of a
+// refusal. A step and a call rest on memory that an opening, a step or a call left. The contracts cite entries_model's `specs/Entries.antt` and
+// `specs/Version.antt`, and kept_model's `specs/Kept.antt` and `specs/Entries.antt`.
+use answer::word;
+use kept::Words;
 ghost use mathlib.Core.Path.{_≡_};
+ghost use Rattle.session_model.specs.Calls.{callOf};
 ghost use Rattle.entries_model.specs.Entries.{checkAnswer, CloseEntry, SettleEntry, SessionEntry};
+ghost use Rattle.entries_model.specs.Version.{version};
+ghost use Rattle.kept_model.specs.Entries.{OpenEntry, Steps, Calls};
+ghost use Rattle.kept_model.specs.Kept.{Kept};
+ghost use Rattle.kept_model.specs.Memory.{memory};
+
+// The version of this part.
+const MAJOR: u32 = 1;
+
+const MINOR: u32 = 1;
+
+const PATCH: u32 = 0;
 
 // Whether book is a good book. Writes nothing, and never answers dead.
 #[no_mangle]
@@ -39,4 +54,68 @@ pub extern "C" fn nested_gcc_session(
     ensures { λ r. ⌜ SessionEntry (now (book .entry)) (now (calls .entry)) (now (answers .entry)) (now (masks .entry)) r (now (answers .exit)) (now (masks .exit)) ⌝ }
 {
     session_bytes::session(book, calls, answers, masks)
+}
+
+// Opens a session of book in lent memory, which then holds it: 256 masks, 16528 cells, 25088 bytes of trail, 256 heights, 7 numbers.
+#[no_mangle]
+pub extern "C" fn nested_gcc_open_in(
+    book: &[u8],
+    masks: &mut [u32],
+    cells: &mut [u16],
+    trail: &mut [u8],
+    heights: &mut [u16],
+    numbers: &mut [usize],
+) -> u32
+    ensures { λ r. ⌜ OpenEntry (now (book .entry))
+        (memory (now (masks .entry)) (now (cells .entry)) (now (trail .entry)) (now (heights .entry)) (now (numbers .entry))) r
+        (memory (now (masks .exit)) (now (cells .exit)) (now (trail .exit)) (now (heights .exit)) (now (numbers .exit))) ⌝ }
+{
+    word(kept::open(book, masks, cells, trail, heights, numbers))
+}
+
+// Makes a list of calls on the session that the memory holds: two words a call.
+#[no_mangle]
+pub extern "C" fn nested_gcc_step_in(
+    calls: &[u8],
+    answers: &mut [u32],
+    masks: &mut [u32],
+    cells: &mut [u16],
+    trail: &mut [u8],
+    heights: &mut [u16],
+    numbers: &mut [usize],
+) -> u32
+    requires { ⌜ Kept (memory (now masks) (now cells) (now trail) (now heights) (now numbers)) ⌝ }
+    ensures { λ r. ⌜ Steps (now (calls .entry)) (now (answers .entry))
+        (memory (now (masks .entry)) (now (cells .entry)) (now (trail .entry)) (now (heights .entry)) (now (numbers .entry))) r
+        (now (answers .exit)) (memory (now (masks .exit)) (now (cells .exit)) (now (trail .exit)) (now (heights .exit)) (now (numbers .exit))) ⌝ }
+{
+    word(kept::step(calls, answers, masks, cells, trail, heights, numbers))
+}
+
+// Makes one call on the session that the memory holds.
+#[no_mangle]
+pub extern "C" fn nested_gcc_call_in(
+    kind: u32,
+    value: u32,
+    slot: u32,
+    masks: &mut [u32],
+    cells: &mut [u16],
+    trail: &mut [u8],
+    heights: &mut [u16],
+    numbers: &mut [usize],
+) -> Words
+    requires { ⌜ Kept (memory (now masks) (now cells) (now trail) (now heights) (now numbers)) ⌝ }
+    ensures { λ r. ⌜ Calls (callOf kind value slot)
+        (memory (now (masks .entry)) (now (cells .entry)) (now (trail .entry)) (now (heights .entry)) (now (numbers .entry))) (r .first) (r .second)
+        (memory (now (masks .exit)) (now (cells .exit)) (now (trail .exit)) (now (heights .exit)) (now (numbers .exit))) ⌝ }
+{
+    kept::call(kind, value, slot, masks, cells, trail, heights, numbers)
+}
+
+// The version of this part in one number.
+#[no_mangle]
+pub extern "C" fn nested_gcc_version() -> u32
+    ensures { λ r. ⌜ r ≡ version ⌝ }
+{
+    65536 * MAJOR + 256 * MINOR + PATCH
 }

@@ -33,12 +33,12 @@ pub fn run_book(
     let live = !is_shut(standing);
     let n = slots(book);
     let k = values(book) as u32;
-    let session = run(calls, answers, masks, cells, trail, heights, n, k, fresh);
+    let session = run(calls, answers, masks, cells, trail, heights, n, k, fresh, 0);
     Ended { session, live }
 }
 
 // Opens a good book: live with the settled masks, or dead with masks that have no value.
-fn open_session(
+pub fn open_session(
     book: &[u8],
     masks: &mut [u32],
     cells: &mut [u16],

@@ -8,7 +8,8 @@ ghost use lib.ListN.{length, set};
 ghost use Rattle.session_model.specs.Calls.{callsOf};
 ghost use Rattle.running_model.specs.Runs.{Runs, Runnable};
 
-// Runs a whole list of calls, each on the session that the one before left, and writes two words for each. The session after the last.
+// Runs a whole list of calls, each on the session that the one before left, and writes two words for each. `made` calls were made before it. The
+// session after the last.
 pub fn run(
     calls: &[u8],
     answers: &mut [u32],
@@ -19,9 +20,10 @@ pub fn run(
     n: usize,
     k: u32,
     session: Session,
+    made: usize,
 ) -> Session
-    requires { ⌜ Runnable (now calls) (now answers) (now masks) (now cells) (now trail) (now heights) n k session ⌝ }
-    ensures { λ r. ⌜ Runs n k (callsOf (now (calls .entry))) session
+    requires { ⌜ Runnable (now calls) (now answers) (now masks) (now cells) (now trail) (now heights) n k session made ⌝ }
+    ensures { λ r. ⌜ Runs n k made (callsOf (now (calls .entry))) session
         (now (masks .entry)) (now (cells .entry)) (now (trail .entry)) (now (heights .entry)) (now (answers .entry))
         r (now (masks .exit)) (now (cells .exit)) (now (trail .exit)) (now (heights .exit)) (now (answers .exit)) ⌝ }
 {
@@ -29,7 +31,7 @@ pub fn run(
     let mut at = session;
     for i in 0..count {
         let call = call_at(calls, i);
-        let stepped = step(masks, cells, trail, heights, n, k, at, call, i);
+        let stepped = step(masks, cells, trail, heights, n, k, at, call, made + i);
         let first = stepped.first;
         let second = stepped.second;
         write_words(answers, i, first, second);

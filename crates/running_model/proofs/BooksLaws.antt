@@ -1,6 +1,6 @@
 -- The laws of `specs/BookRan.antt`: a session opened live (`opens-live`) or dead (`opens-dead`), and a list run from there (`book-ran`). The
 -- laws of `specs/EngineDemand.antt`: the machine's claim holds of the engine, since its cells mirror the book's closed table and its masks
--- (`engine-demand3`, `bookran-mirror`). No contract cites this file. Assumes nothing.
+-- (`represents-engine`, `bookran-mirror`). No contract cites this file. Assumes nothing.
 use mathlib.Core.Path.{_≡_, refl, sym, ap, _∙_, subst, subst⁻¹}
 use mathlib.Core.Bool.{Bool, true, false, not}
 use mathlib.Core.Logic.{_↔_}
@@ -207,21 +207,21 @@ mirror-walls mirror true v t v<k from upto = segments-walls (mirror .rows true v
 mirror-walls mirror false v t v<k from upto = segments-walls (mirror .rows false v v<k) t from upto
 
 -- the first word of a call in the answers is that of the machine's answer to it
-engine-word : (b calls : List ℕ) (limit : ℕ) (answers answers′ : List ℕ) → answers′ ≡ overlay (wordsOf (repliesOf b limit (callsOf calls))) answers
-    → (before rest : List Call) (c : Call) → At (callsOf calls) before c rest
-    → firstWord answers′ before ≡ words (answerTo b limit (callsOf calls) before) .0
+engine-word : (b : List ℕ) (calls : List Call) (limit : ℕ) (answers answers′ : List ℕ) → answers′ ≡ overlay (wordsOf (repliesOf b limit calls)) answers
+    → (before rest : List Call) (c : Call) → At calls before c rest
+    → firstWord answers′ before ≡ words (answerTo b limit calls before) .0
 engine-word b calls limit answers answers′ written before rest c at =
-    let said = wordsOf (repliesOf b limit (callsOf calls)) in
-    let word = answer-word b limit (callsOf calls) before rest c at in
+    let said = wordsOf (repliesOf b limit calls) in
+    let word = answer-word b limit calls before rest c at in
     ap (λ (l : List ℕ). firstWord l before) written ∙ List·getD-append said (drop (length said) answers) 0 (2 * length before) (word .0) ∙ word .1
 
 -- the machine's claim, over the engine's answers and masks, and the cells that mirror the closed table and them
-engine-demand3 : (b calls : List ℕ) (limit : ℕ) (L U answers answers′ masks cells : List ℕ) → closedBook b ≡ some (L, U)
-    → Demand3 b limit (callsOf calls) → answers′ ≡ overlay (wordsOf (repliesOf b limit (callsOf calls))) answers
-    → stateAfter b limit (callsOf calls) .masks ≡ masks → Mirror (Layout.slots b) (Layout.values b) (view L U) masks cells
+engine-demand3 : (b : List ℕ) (calls : List Call) (limit : ℕ) (L U answers answers′ masks cells : List ℕ) → closedBook b ≡ some (L, U)
+    → Demand3 b limit calls → answers′ ≡ overlay (wordsOf (repliesOf b limit calls)) answers
+    → stateAfter b limit calls .masks ≡ masks → Mirror (Layout.slots b) (Layout.values b) (view L U) masks cells
     → EngineDemand3 b calls limit answers′ masks cells
 engine-demand3 b calls limit L U answers answers′ masks cells closes claim written masks-are mirror =
-    let force = forceAfter b limit (callsOf calls) in
+    let force = forceAfter b limit calls in
     let one = closedBook-loosest b L U closes in
     let same = loosest-bounds (Layout.slots b) (Layout.values b) (claim .loosest) one in
     record {
@@ -229,10 +229,10 @@ engine-demand3 b calls limit L U answers answers′ masks cells closes claim wri
       loosest = one;
       largest =
           subst (λ (N : List ℕ). LargestUnder (boundsOf b (view L U)) (Layout.masks b) force N) masks-are
-          (subst (λ (bs : List Bound). LargestUnder bs (Layout.masks b) force (stateAfter b limit (callsOf calls) .masks)) same (claim .largest));
+          (subst (λ (bs : List Bound). LargestUnder bs (Layout.masks b) force (stateAfter b limit calls .masks)) same (claim .largest));
       walls = mirror-walls mirror;
       dies = λ before rest d at unrefused.
-          let reply = answerTo b limit (callsOf calls) before in
+          let reply = answerTo b limit calls before in
           let word = engine-word b calls limit answers answers′ written before rest (decide d) at in
           let dead-word = first-word-dead reply in
           let exactly = claim .dies before rest d at (first-word-unrefused reply (rw word at unrefused)) in (
@@ -242,6 +242,19 @@ engine-demand3 b calls limit L U answers answers′ masks cells closes claim wri
                 (exactly .1 (subst⁻¹ (λ (bs : List Bound). UnstableUnder bs (Layout.masks b) (d ∷ forceAfter b limit before)) same none)),
           );
     }
+
+-- what the slices stand for after a list, on a book that opens live
+pub represents-engine : (b : List ℕ) (calls : List Call) (limit : ℕ) (M answers answers′ : List ℕ) {masks cells trail heights : List ℕ} {session : Session}
+    → settledBook b ≡ some M → answers′ ≡ overlay (wordsOf (repliesOf b limit calls)) answers
+    → standingOf (session .standing) ≡ standingAfter b limit calls
+    → Represents (bookTable b) (openedRules b limit) (stateAfter b limit calls) masks cells trail heights (Layout.slots b) (Layout.values b) session
+    → EngineDemand3 b calls limit answers′ masks cells
+represents-engine b calls limit M answers answers′ {masks} {cells} {session = session} settles written standing represents =
+    let closes = settled-closed b M settles in
+    let working = opened-working represents (run-opened b M limit calls (session .standing) settles standing) in
+    engine-demand3 b calls limit (closes .0) (closes .1) answers answers′ masks cells (closes .2) (demand3 b limit M settles calls) written
+    (represents .masks-are)
+    (subst (λ (T : Table). Mirror (Layout.slots b) (Layout.values b) T masks cells) (bookTable-closed b (closes .0) (closes .1) (closes .2)) (working .mirror))
 
 module _ {b m c t : List ℕ} {fresh : Session} (opens : Opens b m c t fresh) {n k : ℕ} (n-is : n ≡ Layout.slots b) (k-is : k ≡ Layout.values b)
     (heights : List ℕ) where
@@ -253,7 +266,7 @@ module _ {b m c t : List ℕ} {fresh : Session} (opens : Opens b m c t fresh) {n
       record { table = bookTable b; rules = openedRules b (length heights); state = openedState b (length heights); represents = opened-represents }
 
   pub book-ran : (calls : List ℕ) {answers answers′ m′ c′ t′ h′ : List ℕ} {session : Session} (shut : Bool) → shut ≡ isShut (fresh .standing)
-      → Runs n k (callsOf calls) fresh m c t heights answers session m′ c′ t′ h′ answers′
+      → Runs n k 0 (callsOf calls) fresh m c t heights answers session m′ c′ t′ h′ answers′
       → BookRan b calls (length heights) answers answers′ m′ c′ t′ h′ (record { session = session; live = not shut })
   unfolding run
   book-ran calls {answers} {answers′} {m′} {c′} {t′} {h′} {session} shut shut-is ran =
@@ -270,13 +283,7 @@ module _ {b m c t : List ℕ} {fresh : Session} (opens : Opens b m c t fresh) {n
         masks-are = sym (represents .masks-are);
         words = done .words;
         standing = standing;
-        engine = λ M settles.
-            let closes = settled-closed b M settles in
-            let working = opened-working represents (run-opened b M limit (callsOf calls) (session .standing) settles standing) in
-            engine-demand3 b calls limit (closes .0) (closes .1) answers answers′ m′ c′ (closes .2) (demand3 b limit M settles (callsOf calls)) (done .words)
-            (represents .masks-are)
-            (subst (λ (T : Table). Mirror (Layout.slots b) (Layout.values b) T m′ c′) (bookTable-closed b (closes .0) (closes .1) (closes .2))
-            (working .mirror));
+        engine = λ M settles. represents-engine b (callsOf calls) limit M answers answers′ settles (done .words) standing represents;
         demand = λ M settles. demand3 b limit M settles (callsOf calls);
         opened-dead = λ dies. dead-opening b limit dies (callsOf calls);
       }

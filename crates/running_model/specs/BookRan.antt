@@ -70,6 +70,6 @@ pub record BookRan (b calls : List ℕ) (limit : ℕ) (answers answers′ masks 
   pub masks-are : masks ≡ stateAfter b limit (callsOf calls) .masks
   pub words : answers′ ≡ overlay (wordsOf (repliesOf b limit (callsOf calls))) answers
   pub standing : standingOf (r .session .standing) ≡ standingAfter b limit (callsOf calls)
-  pub engine : (M : List ℕ) → settledBook b ≡ some M → EngineDemand3 b calls limit answers′ masks cells
+  pub engine : (M : List ℕ) → settledBook b ≡ some M → EngineDemand3 b (callsOf calls) limit answers′ masks cells
   pub demand : (M : List ℕ) → settledBook b ≡ some M → Demand3 b limit (callsOf calls)
   pub opened-dead : settledBook b ≡ none → DeadOpening b limit (callsOf calls)

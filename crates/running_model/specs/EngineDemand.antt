@@ -15,7 +15,7 @@ use Rattle.settling_model.specs.Book.{bookStart}
 use Rattle.segments_model.specs.Links.{gaps}
 use Rattle.filter_model.specs.Mirror.{cellsOf}
 use Rattle.session_model.specs.BookRun.{forceAfter}
-use Rattle.session_model.specs.Calls.{Call, decide, callsOf}
+use Rattle.session_model.specs.Calls.{Call, decide}
 use Rattle.session_model.specs.Decisions.{Decision, LargestUnder, UnstableUnder}
 use Rattle.session_model.specs.Demand.{At, boundsOf}
 use Rattle.session_model.specs.Walls.{Wall}
@@ -26,15 +26,15 @@ EndsAt kind n k v cells t = 0 < getD (gaps (cellsOf kind n k v cells)) t 0
 abbrev pub firstWord : List ℕ → List Call → ℕ
 firstWord answers before = getD answers (2 * length before) 0
 
-pub record EngineDemand3 (b calls : List ℕ) (limit : ℕ) (answers masks cells : List ℕ) : Type 0 where
+pub record EngineDemand3 (b : List ℕ) (calls : List Call) (limit : ℕ) (answers masks cells : List ℕ) : Type 0 where
   -- the book's closed table
   pub table : Table
   pub loosest : Loosest (Layout.slots b) (Layout.values b) (bookStart b) table
   -- the working masks are the largest stable list within the book's masks and the decisions in force
-  pub largest : LargestUnder (boundsOf b table) (Layout.masks b) (forceAfter b limit (callsOf calls)) masks
+  pub largest : LargestUnder (boundsOf b table) (Layout.masks b) (forceAfter b limit calls) masks
   -- the walls standing are exactly those of the formula
   pub walls : (kind : Bool) (v t : ℕ) → v < Layout.values b → 0 < t → t ≤ Layout.slots b
       → EndsAt kind (Layout.slots b) (Layout.values b) v cells t ↔ Wall kind (Layout.slots b) table masks v t
   -- a decision not refused (256 and more) was answered dead (1) exactly when no stable list lay within the book's masks, it and those in force
-  pub dies : (before rest : List Call) (d : Decision) → At (callsOf calls) before (decide d) rest → firstWord answers before < 256
+  pub dies : (before rest : List Call) (d : Decision) → At calls before (decide d) rest → firstWord answers before < 256
       → (firstWord answers before ≡ 1) ↔ UnstableUnder (boundsOf b table) (Layout.masks b) (d ∷ forceAfter b limit before)

@@ -26,21 +26,21 @@ use Rattle.session_model.specs.State.{wordsOf}
 use Rattle.session_fault.specs.Entry.{badCalls, mostMarks, sessionFault, Outcome, refused, openedWord, sessionGood, unless, sessionOf, SessionRan, SessionReady}
 
 -- ---- sessionFault
-or-first : (a b : Bool) → a ≡ true → a || b ≡ true
+pub or-first : (a b : Bool) → a ≡ true → a || b ≡ true
 or-first a b is = rw is refl
 
-or-second : (a b : Bool) → b ≡ true → a || b ≡ true
+pub or-second : (a b : Bool) → b ≡ true → a || b ≡ true
 or-second true b is = refl
 or-second false b is = is
 
-or-none : (a b : Bool) → a ≡ false → b ≡ false → a || b ≡ false
+pub or-none : (a b : Bool) → a ≡ false → b ≡ false → a || b ≡ false
 or-none a b no-a no-b = rw (no-a, no-b) refl
 
-none-first : (a b : Bool) → a || b ≡ false → a ≡ false
+pub none-first : (a b : Bool) → a || b ≡ false → a ≡ false
 none-first true b is = is
 none-first false b is = refl
 
-none-second : (a b : Bool) → a || b ≡ false → b ≡ false
+pub none-second : (a b : Bool) → a || b ≡ false → b ≡ false
 none-second true b is = absurd (true≢false is)
 none-second false b is = is
 
@@ -108,7 +108,7 @@ module _ (limits : Limits) (b : List ℕ) (bytes wordsRoom masksRoom : ℕ) wher
     sessionFault-room-masks = ltb-false masksRoom (slots b) (none-second (ltb wordsRoom (2 * (bytes / 4))) _ rooms-none)
 
 -- ---- sessionOf
-unless-some : (x : ℕ) (o : Outcome) → (x ≡ 0 → ⊥) → unless x o ≡ refused x
+pub unless-some : (x : ℕ) (o : Outcome) → (x ≡ 0 → ⊥) → unless x o ≡ refused x
 unless-some zero o refusing = absurd (refusing refl)
 unless-some (suc x) o refusing = refl
 

@@ -1,5 +1,5 @@
 -- The laws of `runs`, `run` and `wordsOf`: what a loop over the calls cites. A list is its calls one at a time (`runs-append`, `runs-snoc`,
--- `run-snoc`), from the opening on (`run-none`, `opened-live`, `opened-dead`); a call inside a list is answered as by one step from the state
+-- `run-append`, `run-snoc`), from the opening on (`run-none`, `opened-live`, `opened-dead`); a call inside a list is answered as by one step from the state
 -- after the calls before it (`runs-reply`, `runs-through`); the first word of an answer (`wordsOf-first`). No contract cites this file. Assumes nothing.
 use mathlib.Core.Path.{_≡_, refl, ap, _∙_}
 use mathlib.Core.Logic.{_↔_}
@@ -57,6 +57,11 @@ module _ (R : Rules) (book : List ℕ) where
   pub run-none : run R book [] ≡ (opened R (R .settle book) .1, [])
   unfolding run runs
   run-none = refl
+
+  pub run-append : (calls more : List Call) → run R book (calls ++ more)
+      ≡ (runs (opened R (R .settle book) .0) (run R book calls .0) more .0, run R book calls .1 ++ runs (opened R (R .settle book) .0) (run R book calls .0) more .1)
+  unfolding run
+  run-append calls more = runs-append (opened R (R .settle book) .0) (opened R (R .settle book) .1) calls more
 
   pub run-snoc : (calls : List Call) (c : Call) → run R book (calls ++ (c ∷ [])) ≡ oneMore (opened R (R .settle book) .0) (run R book calls) c
   unfolding run

@@ -74,16 +74,22 @@ standing-flag b limit calls =
     go none = runs-flag (wallless (rulesOf b limit)) _ OpenedDead 0 calls refl
     go (some M) = runs-flag (rulesOf b limit) _ Live 0 calls refl
 
--- ---- one call more
+-- ---- more calls
+pub standFrom-append : (St : Standing) (i : ℕ) (calls more : List Call) (rs qs : List Reply) → length rs ≡ length calls
+    → standFrom St i (calls ++ more) (rs ++ qs) ≡ standFrom (standFrom St i calls rs) (i + length calls) more qs
+unfolding standFrom
+standFrom-append St i [] more [] qs same = ap (λ (j : ℕ). standFrom St j more qs) (sym (add-zero i))
+standFrom-append St i [] more (s ∷ rs) qs same = absurd (omega arith)
+standFrom-append St i (b ∷ calls) more [] qs same = absurd (omega arith)
+standFrom-append St i (b ∷ calls) more (s ∷ rs) qs same =
+    standFrom-append (stand St i b s) (suc i) calls more rs qs (suc-inj same)
+    ∙ ap (λ (j : ℕ). standFrom (standFrom (stand St i b s) (suc i) calls rs) j more qs)
+    (let next : suc i + length calls ≡ i + suc (length calls) = omega arith in next)
+
 pub standFrom-snoc : (St : Standing) (i : ℕ) (calls : List Call) (rs : List Reply) (c : Call) (r : Reply) → length rs ≡ length calls
     → standFrom St i (calls ++ (c ∷ [])) (rs ++ (r ∷ [])) ≡ stand (standFrom St i calls rs) (i + length calls) c r
 unfolding standFrom
-standFrom-snoc St i [] [] c r same = ap (λ (j : ℕ). stand St j c r) (sym (add-zero i))
-standFrom-snoc St i [] (s ∷ rs) c r same = absurd (omega arith)
-standFrom-snoc St i (b ∷ calls) [] c r same = absurd (omega arith)
-standFrom-snoc St i (b ∷ calls) (s ∷ rs) c r same =
-    standFrom-snoc (stand St i b s) (suc i) calls rs c r (suc-inj same)
-    ∙ ap (λ (j : ℕ). stand (standFrom (stand St i b s) (suc i) calls rs) j c r) (let next : suc i + length calls ≡ i + suc (length calls) = omega arith in next)
+standFrom-snoc St i calls rs c r same = standFrom-append St i calls (c ∷ []) rs (r ∷ []) same
 
 pub standing-snoc : (b : List ℕ) (limit : ℕ) (calls : List Call) (c : Call) (r : Reply)
     → repliesOf b limit (calls ++ (c ∷ [])) ≡ repliesOf b limit calls ++ (r ∷ [])

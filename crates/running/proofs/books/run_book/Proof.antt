@@ -23,7 +23,7 @@ cast-k c = search needs
 
 run-requires : tie.Need-run-requires
 run-requires c κs =
-    record { running = opened-running (c .before .before .before .before .before .before .before .before .before .before .before .before .before .before .before .before .before .before .open-session .ensures) (c .before .before .before .before .before .before .slots .ensures .0) (c .before .before .before .before .before .values .ensures .0) (c .before .before .before .before .before .before .before .before .before .before .before .before .before .before .before .before .before .before .before .before .before .before .before .before .before .before .before .before .before .before .before .before .before .args .heights .now); room = c .before .before .before .before .before .before .before .before .before .before .before .before .before .before .before .before .before .before .before .before .before .before .before .before .before .before .before .before .before .before .before .before .before .pre .room }
+    record { running = opened-running (c .before .before .before .before .before .before .before .before .before .before .before .before .before .before .before .before .before .before .open-session .ensures) (c .before .before .before .before .before .before .slots .ensures .0) (c .before .before .before .before .before .values .ensures .0) (c .before .before .before .before .before .before .before .before .before .before .before .before .before .before .before .before .before .before .before .before .before .before .before .before .before .before .before .before .before .before .before .before .before .args .heights .now); room = c .before .before .before .before .before .before .before .before .before .before .before .before .before .before .before .before .before .before .before .before .before .before .before .before .before .before .before .before .before .before .before .before .before .pre .room; numbers = omega (arith, c .before .before .before .before .before .before .before .before .before .before .before .before .before .before .before .before .before .before .before .before .before .before .before .before .before .before .before .before .before .before .before .before .before .good .1 .0) }
 
 same-length : tie.Need-same-length
 same-length c = search needs

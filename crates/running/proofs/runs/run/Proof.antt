@@ -11,11 +11,11 @@ use Rattle.running.proofs.runs.run.Statement.{statement}
 use Rattle.running.proofs.runs.run.Tie as tie
 
 abbrev Inv-loop : tie.InvT-loop
-Inv-loop calls answers₀ masks₀ cells₀ trail₀ heights₀ n k count at₀ i₀ answers masks cells trail heights at i =
-    (i ≤ count) × (count ≡ length calls / 4) × Lengths masks₀ cells₀ trail₀ heights₀ answers₀ masks cells trail heights answers × Runs n k (callsTo calls i) at₀ masks₀ cells₀ trail₀ heights₀ answers₀ at masks cells trail heights answers
+Inv-loop calls answers₀ masks₀ cells₀ trail₀ heights₀ n k made count at₀ i₀ answers masks cells trail heights at i =
+    (i ≤ count) × (count ≡ length calls / 4) × Lengths masks₀ cells₀ trail₀ heights₀ answers₀ masks cells trail heights answers × Runs n k made (callsTo calls i) at₀ masks₀ cells₀ trail₀ heights₀ answers₀ at masks cells trail heights answers
 
 abbrev μ-loop : tie.MeasureT-loop
-μ-loop calls answers₀ masks₀ cells₀ trail₀ heights₀ n k count at₀ i₀ answers masks cells trail heights at i =
+μ-loop calls answers₀ masks₀ cells₀ trail₀ heights₀ n k made count at₀ i₀ answers masks cells trail heights at i =
     count - i
 
 loop-holds : tie.Need-loop-holds Inv-loop μ-loop
@@ -25,6 +25,10 @@ loop-holds c =
 call-at-requires : tie.Need-call-at-requires Inv-loop μ-loop
 call-at-requires c κs =
     omega (arith, c .loop-test .taken, c .before .loop .inv .1)
+
+add-step : tie.Need-add-step Inv-loop μ-loop
+add-step c =
+    omega (arith, c .before .before .before .before .before .loop-test .taken, c .before .before .before .before .before .before .loop .inv .1, c .before .before .before .before .before .before .before .before .before .before .before .before .before .pre .numbers)
 
 step-requires : tie.Need-step-requires Inv-loop μ-loop
 step-requires c κs =
@@ -78,6 +82,7 @@ run-spec =
     μ-loop
     loop-holds
     call-at-requires
+    add-step
     step-requires
     write-words-requires
     add-i

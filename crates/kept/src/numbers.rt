@@ -1,0 +1,98 @@
+// A session in the seven numbers of its memory: slots, types, calls made, standing, its call, open marks, the trail's height. The contracts cite
+// kept_model's `specs/Memory.antt`.
+use acts::Session;
+use acts::Standing;
+ghost use mathlib.Core.Path.{_≡_};
+ghost use Prim.Native.Nat.{_<_};
+ghost use lib.ListN.{length, getD};
+ghost use Rattle.kept_model.specs.Memory.{standingNumber, deadCall, standingIn, numbersOf, sessionIn};
+
+// How many numbers there are, and where each stands.
+pub const NUMBERS: usize = 7;
+
+pub const SLOTS: usize = 0;
+
+pub const TYPES: usize = 1;
+
+pub const MADE: usize = 2;
+
+const STANDING: usize = 3;
+
+const DEAD_CALL: usize = 4;
+
+const MARKS: usize = 5;
+
+const TOP: usize = 6;
+
+pub fn number_at(numbers: &[usize], i: usize) -> usize
+    requires { ⌜ i < length (now numbers) ⌝ }
+    ensures { λ r. ⌜ r ≡ getD (now (numbers .entry)) i 0 ⌝ }
+{
+    numbers[i]
+}
+
+// The session that the numbers stand for.
+pub fn session_in(numbers: &[usize]) -> Session
+    requires { ⌜ length (now numbers) ≡ 7 ⌝ }
+    ensures { λ r. ⌜ r ≡ sessionIn (now (numbers .entry)) ⌝ }
+{
+    let number = number_at(numbers, STANDING);
+    let call = number_at(numbers, DEAD_CALL);
+    let standing = standing_in(number, call);
+    let top = number_at(numbers, TOP);
+    let marks = number_at(numbers, MARKS);
+    Session {
+        standing,
+        top,
+        marks,
+    }
+}
+
+// The standing of a number: 0 live, 1 dead since the call, else opened dead.
+fn standing_in(number: usize, call: usize) -> Standing
+    ensures { λ r. ⌜ r ≡ standingIn number call ⌝ }
+{
+    if number == 0 {
+        return Standing::Live;
+    }
+    if number == 1 {
+        return Standing::Dead(call);
+    }
+    Standing::OpenedDead
+}
+
+// Writes a session of so many slots and types after so many calls.
+pub fn write_numbers(numbers: &mut [usize], n: usize, k: usize, made: usize, session: Session)
+    requires { ⌜ length (now numbers) ≡ 7 ⌝ }
+    ensures { λ _. ⌜ now (numbers .exit) ≡ numbersOf n k made session ⌝ }
+{
+    let standing = session.standing;
+    numbers[TOP] = session.top;
+    numbers[SLOTS] = n;
+    numbers[TYPES] = k;
+    numbers[MADE] = made;
+    numbers[STANDING] = standing_number(standing);
+    numbers[DEAD_CALL] = dead_call(standing);
+    numbers[MARKS] = session.marks;
+}
+
+fn standing_number(standing: Standing) -> usize
+    ensures { λ r. ⌜ r ≡ standingNumber standing ⌝ }
+{
+    match standing {
+        Standing::Live => 0,
+        Standing::Dead(_) => 1,
+        Standing::OpenedDead => 2,
+    }
+}
+
+// The call that a session is dead since; 0 for one that is not.
+fn dead_call(standing: Standing) -> usize
+    ensures { λ r. ⌜ r ≡ deadCall standing ⌝ }
+{
+    match standing {
+        Standing::Live => 0,
+        Standing::Dead(call) => call,
+        Standing::OpenedDead => 0,
+    }
+}

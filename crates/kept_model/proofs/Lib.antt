@@ -1,0 +1,4 @@
+pub mod EntriesLaws
+pub mod KeptLaws
+pub mod MemoryLaws
+pub mod SearchLaws

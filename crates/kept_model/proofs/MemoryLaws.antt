@@ -1,0 +1,100 @@
+-- The laws of `specs/Memory.antt`, in its order: the sizes (`sizes-masks` .. `sizes-numbers`, `sized-is`), a standing in numbers and back
+-- (`standingIn-number`), a
+-- session in numbers and back (`sessionIn-numbers`). No contract cites this file. Assumes nothing.
+use mathlib.Core.Path.{_≡_, refl, sym, ap}
+use mathlib.Core.Bool.{Bool, true, false, true≢false, _&&_}
+use mathlib.Core.List.{List, [], _∷_}
+use Prim.Native.Nat.{ℕ}
+use native.Mathlib.Omega.{arith}
+use borrow.Author.Tests.{eqb-true, ne-eqb}
+use lib.Dec.{eqb}
+use lib.ListN.{length, set}
+use Rattle.acts.specs.declared.Session.{Session}
+use Rattle.acts.specs.declared.Standing.{Standing}
+use Rattle.acts.specs.declared.Standing.the-variants.{OpenedDead, Live, Dead}
+use Rattle.kept_model.specs.Memory.{Memory, Sized, sizes, sized, standingNumber, deadCall, standingIn, numbersOf, sessionIn}
+
+-- ---- sizes, sized
+and-none-second : (a b : Bool) → b ≡ false → a && b ≡ false
+and-none-second true b is = is
+and-none-second false b is = refl
+
+module _ (masks cells trail heights numbers : ℕ) where
+  pub sizes-masks : (masks ≡ 256 → ⊥) → sizes masks cells trail heights numbers ≡ false
+  unfolding sizes
+  sizes-masks other = rw (ne-eqb masks 256 other) refl
+
+  pub sizes-cells : (cells ≡ 16528 → ⊥) → sizes masks cells trail heights numbers ≡ false
+  unfolding sizes
+  sizes-cells other = and-none-second (eqb masks 256) _ (rw (ne-eqb cells 16528 other) refl)
+
+  pub sizes-trail : (trail ≡ 25088 → ⊥) → sizes masks cells trail heights numbers ≡ false
+  unfolding sizes
+  sizes-trail other = and-none-second (eqb masks 256) _ (and-none-second (eqb cells 16528) _ (rw (ne-eqb trail 25088 other) refl))
+
+  pub sizes-heights : (heights ≡ 256 → ⊥) → sizes masks cells trail heights numbers ≡ false
+  unfolding sizes
+  sizes-heights other =
+      and-none-second (eqb masks 256) _ (and-none-second (eqb cells 16528) _ (and-none-second (eqb trail 25088) _ (rw (ne-eqb heights 256 other) refl)))
+
+  pub sizes-numbers : masks ≡ 256 → cells ≡ 16528 → trail ≡ 25088 → heights ≡ 256 → sizes masks cells trail heights numbers ≡ eqb numbers 7
+  unfolding sizes
+  sizes-numbers m c t h = rw (m, c, t, h) refl
+
+and-first : (a b : Bool) → a && b ≡ true → a ≡ true
+and-first true b is = refl
+and-first false b is = is
+
+and-second : (a b : Bool) → a && b ≡ true → b ≡ true
+and-second true b is = is
+and-second false b is = absurd (true≢false (sym is))
+
+pub sized-is : (at : Memory) → sized at ≡ true → Sized at
+unfolding sizes
+sized-is at is =
+    let cells = and-second (eqb (length (at .masks)) 256) _ is in
+    let trail = and-second (eqb (length (at .cells)) 16528) _ cells in
+    let heights = and-second (eqb (length (at .trail)) 25088) _ trail in
+    record {
+      masks = eqb-true _ 256 (and-first (eqb (length (at .masks)) 256) _ is);
+      cells = eqb-true _ 16528 (and-first (eqb (length (at .cells)) 16528) _ cells);
+      trail = eqb-true _ 25088 (and-first (eqb (length (at .trail)) 25088) _ trail);
+      heights = eqb-true _ 256 (and-first (eqb (length (at .heights)) 256) _ heights);
+      numbers = eqb-true _ 7 (and-second (eqb (length (at .heights)) 256) _ heights);
+    }
+
+-- ---- standingIn, sessionIn
+pub standingIn-live : (number call : ℕ) → number ≡ 0 → standingIn number call ≡ Live
+unfolding standingIn
+standingIn-live number call is = rw is refl
+
+pub standingIn-dead : (number call : ℕ) → number ≡ 1 → standingIn number call ≡ Dead call
+unfolding standingIn
+standingIn-dead number call is = rw is refl
+
+pub standingIn-shut : (number call : ℕ) → (number ≡ 0 → ⊥) → (number ≡ 1 → ⊥) → standingIn number call ≡ OpenedDead
+unfolding standingIn
+standingIn-shut number call not-0 not-1 = rw (ne-eqb number 0 not-0, ne-eqb number 1 not-1) refl
+
+pub standingIn-number : (standing : Standing) → standingIn (standingNumber standing) (deadCall standing) ≡ standing
+unfolding standingIn
+standingIn-number Live = refl
+standingIn-number (Dead call) = refl
+standingIn-number OpenedDead = refl
+
+pub sessionIn-numbers : (n k made : ℕ) (session : Session) → sessionIn (numbersOf n k made session) ≡ session
+sessionIn-numbers n k made session =
+    ap (λ (standing : Standing). record { standing = standing; top = session .top; marks = session .marks }) (standingIn-number (session .standing))
+
+-- seven stores write the numbers
+pub numbers-stored : (ns : List ℕ) (n k made number call marks top : ℕ) → length ns ≡ 7
+    → set (set (set (set (set (set (set ns 6 top) 0 n) 1 k) 2 made) 3 number) 4 call) 5 marks ≡ n ∷ k ∷ made ∷ number ∷ call ∷ marks ∷ top ∷ []
+numbers-stored [] n k made number call marks top long = absurd (omega (arith, long))
+numbers-stored (x₀ ∷ []) n k made number call marks top long = absurd (omega (arith, long))
+numbers-stored (x₀ ∷ x₁ ∷ []) n k made number call marks top long = absurd (omega (arith, long))
+numbers-stored (x₀ ∷ x₁ ∷ x₂ ∷ []) n k made number call marks top long = absurd (omega (arith, long))
+numbers-stored (x₀ ∷ x₁ ∷ x₂ ∷ x₃ ∷ []) n k made number call marks top long = absurd (omega (arith, long))
+numbers-stored (x₀ ∷ x₁ ∷ x₂ ∷ x₃ ∷ x₄ ∷ []) n k made number call marks top long = absurd (omega (arith, long))
+numbers-stored (x₀ ∷ x₁ ∷ x₂ ∷ x₃ ∷ x₄ ∷ x₅ ∷ []) n k made number call marks top long = absurd (omega (arith, long))
+numbers-stored (x₀ ∷ x₁ ∷ x₂ ∷ x₃ ∷ x₄ ∷ x₅ ∷ x₆ ∷ []) n k made number call marks top long = refl
+numbers-stored (x₀ ∷ x₁ ∷ x₂ ∷ x₃ ∷ x₄ ∷ x₅ ∷ x₆ ∷ x₇ ∷ ns) n k made number call marks top long = absurd (omega (arith, long))

@@ -1,0 +1,4 @@
+pub mod Entries
+pub mod Memory
+pub mod Kept
+pub mod Search
