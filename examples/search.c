@@ -1,16 +1,17 @@
-/* Searches for a plan, depth first, with nested_gcc_session as the filter. The book has 16 slots and 4 types:
+/* Searches for a plan, depth first, with a kept session as the filter. The book has 16 slots and 4 types:
  *   slots 0 to 3 may have the types 0 1 2, slots 4 to 7 the types 0 2 3, slots 8 to 11 the types 1 2 3, the others all;
  *   at most 2 of type 0 within the first 6 slots; at least 6 of type 1 within 12 and 8 within 16; at least 2 of
  *   type 2 within 14; at least 3 of type 3 within 16.
- * The first slot with more than one type is assigned its lowest. Where that is dead the type is removed instead, and
- * where that is dead too the search goes back to the latest assign. It has to: after 0 0 1 1 2 2 0 2 1 1 1 1 the last
- * four slots owe two of type 1 and three of type 3.
+ * The first slot with more than one type is assigned its lowest, behind a mark. Where that is dead the search goes back
+ * and removes the type instead, and where that is dead too it goes back to the mark before. It has to: after
+ * 0 0 1 1 2 2 0 2 1 1 1 1 the last four slots owe two of type 1 and three of type 3. An assign that is in force took a
+ * choice from its slot, so no more marks are open than there are slots: 256 suffice for every book.
  *
- * The list of calls is the decisions in force; going back drops the last of them. What that costs: a session keeps
- * nothing, so each one opens the book anew and makes every decision of its list, d(d + 1)/2 on a way of d decisions
- * down. nested_gcc_session is the form for a host that sends whole lists; with marks and backs one list tries many
- * things (session.c). Each decision in force strikes a type, so there are at most n(k - 1), here 48; a list of more
- * than 4096 calls is refused by 10. */
+ * A node is the opened book or what a decision led to, live or dead. Each costs its own calls: a mark and an assign, or a
+ * back and a remove. The other way, without a state, is to send nested_gcc_session the decisions in force for each node:
+ * it then opens the book anew and makes every decision of the way again, d(d + 1)/2 on a way of d decisions down.
+ * Measured, that costs 40 times as much and more at 64 slots and 8 types, and 150 times and more at 256 slots and 32
+ * types (docs/PERFORMANCE.md). nested_gcc_session is the form for a host that sends whole lists (session.c). */
 #include "nested_gcc.h"
 #include <stdio.h>
 #include <stdlib.h>
@@ -19,7 +20,6 @@
 #define TYPES 4
 #define ROWS 5
 #define BOOK_BYTES (12 + 4 * SLOTS + 8 * ROWS)
-#define CALLS_MOST (SLOTS * (TYPES - 1))
 
 static const unsigned book_masks[SLOTS] = { 7, 7, 7, 7, 13, 13, 13, 13, 14, 14, 14, 14, 15, 15, 15, 15 };
 
@@ -34,10 +34,8 @@ static const struct row {
 };
 
 static uint8_t book[BOOK_BYTES];
-static uint8_t calls[4 * CALLS_MOST];
-static size_t call_count;
-static uint8_t answers[8 * CALLS_MOST], masks[4 * SLOTS];
-static int sessions, died;
+static nested_gcc_state state; /* 60 KB: static or allocated, and not on a small stack */
+static int nodes, dead_nodes;
 
 /* ---- the book ---- */
 
@@ -62,56 +60,48 @@ static void write_book(void) {
 
 /* ---- the search ---- */
 
-static void put_call(size_t at, unsigned kind, unsigned type, unsigned slot) {
-    calls[4 * at] = (uint8_t)kind;
-    calls[4 * at + 1] = (uint8_t)type;
-    put16(calls + 4 * at + 2, slot);
-}
-
-/* Runs a session with the decisions in force; whether it is live at the end. All but the last were live before. */
-static int live(void) {
-    uint32_t answer = nested_gcc_session(book, sizeof book, calls, 4 * call_count, answers, sizeof answers,
-                                         masks, sizeof masks);
-    int dead = answer == NESTED_GCC_DEAD || (call_count > 0 && answers[8 * (call_count - 1)] == NESTED_GCC_CALL_DEAD);
-    if (answer >= NESTED_GCC_REFUSED) {
-        printf("refused %u\n", (unsigned)(answer - NESTED_GCC_REFUSED));
-        exit(1);
-    }
-    sessions++;
-    died += dead;
-    return !dead;
-}
-
-/* Of 4 types, a mask has its types in the first byte. */
-static int first_type(int slot) {
+static int first_type(uint32_t mask) {
     int v = 0;
-    while ((masks[4 * slot] >> v & 1) == 0) v++;
+    while ((mask >> v & 1) == 0) v++;
     return v;
 }
 
 static int first_open_slot(void) {
     int slot = 0;
-    while (slot < SLOTS && masks[4 * slot] == 1 << first_type(slot)) slot++;
+    while (slot < SLOTS && state.masks[slot] == (uint32_t)1 << first_type(state.masks[slot])) slot++;
     return slot;
 }
 
-/* Drops the last decisions up to the latest assign, and turns that one into a remove; 0 if there is none. */
-static int go_back(void) {
-    while (call_count > 0 && calls[4 * (call_count - 1)] == NESTED_GCC_REMOVE) call_count--;
-    if (call_count == 0) return 0;
-    calls[4 * (call_count - 1)] = NESTED_GCC_REMOVE;
-    return 1;
+/* Makes the call; the first word of its answer. */
+static uint32_t call(uint32_t kind, int type, int slot) {
+    uint32_t answer[2];
+    if (nested_gcc_call(&state, kind, (uint32_t)type, (uint32_t)slot, answer) >= NESTED_GCC_REFUSED) {
+        printf("refused %u\n", (unsigned)(answer[0] - NESTED_GCC_REFUSED));
+        exit(1);
+    }
+    return answer[0];
 }
 
 /* Whether there is a plan; the masks then have one type each. */
 static int search(void) {
+    struct { int slot, type; } assigned[SLOTS]; /* one for each open mark */
+    int depth = 0, live = nested_gcc_standing(&state) == NESTED_GCC_STANDING_LIVE;
     for (;;) {
-        if (live()) {
+        nodes++;
+        dead_nodes += !live;
+        if (live) {
             int slot = first_open_slot();
             if (slot == SLOTS) return 1;
-            put_call(call_count++, NESTED_GCC_ASSIGN, (unsigned)first_type(slot), (unsigned)slot);
-        } else if (!go_back()) {
-            return 0;
+            assigned[depth].slot = slot;
+            assigned[depth].type = first_type(state.masks[slot]);
+            call(NESTED_GCC_MARK, 0, 0);
+            live = call(NESTED_GCC_ASSIGN, assigned[depth].type, slot) == NESTED_GCC_CALL_LIVE;
+            depth++;
+        } else {
+            if (depth == 0) return 0;
+            depth--;
+            call(NESTED_GCC_BACK, 0, 0);
+            live = call(NESTED_GCC_REMOVE, assigned[depth].type, assigned[depth].slot) == NESTED_GCC_CALL_LIVE;
         }
     }
 }
@@ -138,18 +128,24 @@ static int keeps_masks_and_rows(const int *plan) {
 
 int main(void) {
     int plan[SLOTS], slot;
+    uint32_t opened;
     write_book();
+    opened = nested_gcc_open(book, sizeof book, &state);
+    if (opened >= NESTED_GCC_REFUSED) {
+        printf("refused %u\n", (unsigned)(opened - NESTED_GCC_REFUSED));
+        return 1;
+    }
     if (!search()) {
         printf("no plan\n");
         return 1;
     }
-    for (slot = 0; slot < SLOTS; slot++) plan[slot] = first_type(slot);
+    for (slot = 0; slot < SLOTS; slot++) plan[slot] = first_type(state.masks[slot]);
     if (!keeps_masks_and_rows(plan)) {
         printf("the masks or the rows are broken\n");
         return 1;
     }
     printf("plan");
     for (slot = 0; slot < SLOTS; slot++) printf(" %d", plan[slot]);
-    printf("\nsessions %d, of which %d ended dead\n", sessions, died);
+    printf("\nnodes %d, of which %d dead\n", nodes, dead_nodes);
     return 0;
 }

@@ -3,13 +3,18 @@
  * Link with libnested_gcc.a, which `rt staticlib nested_gcc` builds.
  *
  * docs/SPECIFICATION.md has the rules in full: 1 Words and numbers, 2 The book, 3 Closing,
- * 4 Settling and plans, 5 The session, 6 Walls, 7 Entries, 8 Refusals, 9 Worked examples, 10 The program planrun.
+ * 4 Settling and plans, 5 The session, 6 Walls, 7 Entries, 8 Refusals, 9 Worked examples, 10 The program planrun,
+ * 11 The kept session, 12 The version.
  * docs/ASSUMPTIONS.md lists what a host must keep.
  *
  * nested_gcc_check    whether the bytes are a good book
  * nested_gcc_close    the bounds that follow from a book's rows, or that the book is dead
  * nested_gcc_settle   the types that each slot may still have, or that the book is dead
  * nested_gcc_session  a list of calls on a settled book: decisions, marks to go back to, and questions
+ * nested_gcc_open     the same session kept in memory of the host, a nested_gcc_state, for a search: opened once,
+ * nested_gcc_step     then stepped by lists of calls,
+ * nested_gcc_call     or by single calls, from where the last left it
+ * nested_gcc_version  the version of the archive
  *
  * A book, in little-endian numbers: slots n (2 bytes, 1 to NESTED_GCC_SLOTS_MOST), types k (1 byte, 1 to
  * NESTED_GCC_TYPES_MOST), a byte 0, row count r (2 bytes, 0 to NESTED_GCC_ROWS_MOST), offset of the masks
@@ -19,26 +24,30 @@
  * `upper` of the type; upper NESTED_GCC_NO_UPPER means no upper bound.
  *
  * For every function here:
- * - There is no premise on the bytes. If the book and the calls are readable and the outputs writable, the
- *   answer is defined, and follows from the book, the calls and the outputs' lengths alone.
+ * - There is no premise on the bytes of a book or a list of calls. If they are readable and the outputs writable,
+ *   the answer is defined, and follows from the book, the calls and the outputs' lengths alone; that of
+ *   nested_gcc_step and nested_gcc_call from the state, the calls and the answers' length. These two have the only
+ *   premise: the state is what nested_gcc_open, nested_gcc_step or nested_gcc_call left, or a copy of that.
  * - A pointer may be NULL, or any other, when its length is 0: nothing is read or written through it. So an
  *   empty std::vector may be passed by its data() and size(). This is tested, not proved, by
  *   host/nested-gcc/tests/null.rs and examples/empty.c. With another length a pointer is not NULL.
- * - Nothing is kept between calls and nothing is allocated, so any number of threads may call at once.
+ * - The library keeps nothing between calls and allocates nothing: a kept session is in the state that the host owns.
+ *   So any number of threads may call at once, each with outputs and a state of its own.
  * - A book is only read, and only during the call, and so is a list of calls. No thread may change them
  *   meanwhile. Functions that run at once may share them.
  * - An output is written only during the call, and only where the function's comment says so. What it
  *   holds before plays no part in the answer or in what is written. It may not overlap the book, the calls or
- *   another output, and no other thread may use it meanwhile.
+ *   another output, and no other thread may use it meanwhile. All of this but the second sentence holds of a state.
  * - Lengths are in bytes. An output's elements are little-endian and need no alignment; a trailing part
  *   of an element neither counts nor is written. A buffer is lent: it is the function's for the call alone.
+ *   The answers of nested_gcc_step are words of C, aligned and counted as such; so are the fields of a state.
  * - The comment of each function says how much stack a call needs, from its caller's frame down. That is
  *   measured, not proved, by host/nested-gcc/tests/stack.rs, which fails above the figure named there. A thread's
  *   own start takes some 5 KiB more (glibc). The 128 KiB that some C libraries (musl) give a thread by default
  *   are too few: unless it refuses, nested_gcc_session leaves less than 3 of them, and on some books it and
  *   nested_gcc_settle need twice as much. A host gives a thread that calls them 6 MiB, which suffices for every
- *   book, or 512 KiB if it knows its books (pthread_attr_setstacksize). docs/ASSUMPTIONS.md, "Stack", has the
- *   figures in one table.
+ *   book, or 512 KiB if it knows its books (pthread_attr_setstacksize). A kept session needs less, @@THREADS@@
+ *   docs/ASSUMPTIONS.md, "Stack", has the figures in one table.
  */
 #ifndef NESTED_GCC_H
 #define NESTED_GCC_H
@@ -49,6 +58,20 @@
 #ifdef __cplusplus
 extern "C" {
 #endif
+
+/* The version of this header: major, when a signature changes, or what a good input was answered; minor, when an
+ * entry is added, or what was refused is accepted or refused by another number; patch else. CHANGELOG.md tells them. */
+#define NESTED_GCC_VERSION "1.1.0"
+#define NESTED_GCC_VERSION_MAJOR 1u
+#define NESTED_GCC_VERSION_MINOR 1u
+#define NESTED_GCC_VERSION_PATCH 0u
+#define NESTED_GCC_VERSION_NUMBER \
+    (NESTED_GCC_VERSION_MAJOR * 65536u + NESTED_GCC_VERSION_MINOR * 256u + NESTED_GCC_VERSION_PATCH)
+
+/*
+ * The version of the archive, as NESTED_GCC_VERSION_NUMBER is that of the header. Stack: a few bytes.
+ */
+uint32_t nested_gcc_version(void);
 
 /* The sizes of a good book. */
 #define NESTED_GCC_SLOTS_MOST 256u  /* the most slots; the least is 1 */
@@ -168,7 +191,8 @@ uint32_t nested_gcc_settle(const uint8_t *book, size_t book_len, uint8_t *masks,
 #define NESTED_GCC_WHILE_DEAD (NESTED_GCC_REFUSED + 15u)     /* kind 1, 2 or 3 while dead */
 #define NESTED_GCC_TOO_MANY_MARKS (NESTED_GCC_REFUSED + 16u) /* mark with NESTED_GCC_MARKS_MOST open */
 
-/* The most bytes of calls that nested_gcc_session takes, 4 * 4096, and of answers that it writes. */
+/* The most bytes of calls that nested_gcc_session and nested_gcc_step take, 4 * 4096, and of answers that they
+ * write. */
 #define NESTED_GCC_CALLS_BYTES 16384u
 #define NESTED_GCC_ANSWERS_BYTES 32768u
 
@@ -214,6 +238,157 @@ uint32_t nested_gcc_session(const uint8_t *book, size_t book_len,
                             const uint8_t *calls, size_t calls_len,
                             uint8_t *answers, size_t answers_len,
                             uint8_t *masks, size_t masks_len);
+
+/* The elements of a state's fields, where no other macro names them. */
+#define NESTED_GCC_RECORD_NUMBERS 7u
+#define NESTED_GCC_CELLS 16528u
+#define NESTED_GCC_TRAIL_BYTES 25088u
+
+/*
+ * The memory of a kept session, 59,736 bytes: the host's, wherever it likes, mostly static or allocated. A host reads
+ * `masks`, of which the first n are those of the slots, and the record through the functions below; it writes to none
+ * of the fields. A state has no pointers. So a copy by assignment, or byte by byte, is a second session that stands
+ * where the first stands: a node for a search that runs in several threads, or a place to come back to. One thread at
+ * a time uses a state.
+ */
+typedef struct nested_gcc_state {
+    size_t record[NESTED_GCC_RECORD_NUMBERS];
+    uint32_t masks[NESTED_GCC_SLOTS_MOST];
+    uint16_t cells[NESTED_GCC_CELLS];
+    uint16_t heights[NESTED_GCC_MARKS_MOST];
+    uint8_t trail[NESTED_GCC_TRAIL_BYTES];
+} nested_gcc_state;
+
+/* A compiler that gives a state 64 KiB or more refuses this. */
+typedef char nested_gcc_state_below_64_kib[sizeof(nested_gcc_state) < 65536u ? 1 : -1];
+
+/* Two words of an answer to a call. */
+typedef struct nested_gcc_words {
+    uint32_t first, second;
+} nested_gcc_words;
+
+/*
+ * The functions that nested_gcc_open, nested_gcc_step and nested_gcc_call pass a state's fields to, for languages that
+ * cannot use inline functions of C. Lengths are in elements: masks 256, cells 16528, trail 25088, heights 256, record
+ * 7, each aligned as C has it, none overlapping another; answers_len is in words. nested_gcc_open_in refuses any other
+ * length of these five by 9; for the other two the five are the premise's. The record: n, k, the calls made, the
+ * standing, the call that it is dead since, the open marks, and a number of the library's own.
+ */
+uint32_t nested_gcc_open_in(const uint8_t *book, size_t book_len,
+                            uint32_t *masks, size_t masks_len,
+                            uint16_t *cells, size_t cells_len,
+                            uint8_t *trail, size_t trail_len,
+                            uint16_t *heights, size_t heights_len,
+                            size_t *record, size_t record_len);
+uint32_t nested_gcc_step_in(const uint8_t *calls, size_t calls_len,
+                            uint32_t *answers, size_t answers_len,
+                            uint32_t *masks, size_t masks_len,
+                            uint16_t *cells, size_t cells_len,
+                            uint8_t *trail, size_t trail_len,
+                            uint16_t *heights, size_t heights_len,
+                            size_t *record, size_t record_len);
+nested_gcc_words nested_gcc_call_in(uint32_t kind, uint32_t type, uint32_t slot,
+                                    uint32_t *masks, size_t masks_len,
+                                    uint16_t *cells, size_t cells_len,
+                                    uint8_t *trail, size_t trail_len,
+                                    uint16_t *heights, size_t heights_len,
+                                    size_t *record, size_t record_len);
+
+/*
+ * Opens a session on a book in the state, as nested_gcc_session opens one. What the state holds before plays no part.
+ * The book is not needed afterwards.
+ *
+ * NESTED_GCC_LIVE: opened live. The first n masks are those of nested_gcc_settle.
+ * NESTED_GCC_DEAD: opened dead. The first n masks are 0.
+ * Refusals: 1 to 8. The state is not touched: a session that was open in it goes on.
+ * Masks past the n-th stay as they are.
+ *
+ * Stack: @@OPEN@@
+ */
+static inline uint32_t nested_gcc_open(const uint8_t *book, size_t book_len, nested_gcc_state *state) {
+    return nested_gcc_open_in(book, book_len, state->masks, NESTED_GCC_SLOTS_MOST, state->cells, NESTED_GCC_CELLS,
+                              state->trail, NESTED_GCC_TRAIL_BYTES, state->heights, NESTED_GCC_MARKS_MOST,
+                              state->record, NESTED_GCC_RECORD_NUMBERS);
+}
+
+/*
+ * Makes a list of calls on the state, as nested_gcc_session makes it, from where the last open, step or call left it.
+ * The words of call i are put at answers[2i] and answers[2i + 1]; the first n masks of the state are then those of the
+ * session. A list cut into pieces and stepped piece by piece gives the words and the last masks of the whole list.
+ *
+ * The premise: the state is what the last open, step or call left, or a copy of that. What is done with a state that
+ * was never opened, or was changed otherwise, is not promised: memory outside it may then be read and written.
+ *
+ * NESTED_GCC_LIVE: the session is live after the list.
+ * NESTED_GCC_DEAD: it is dead after the list: it opened dead, or died of a call that no back has taken back.
+ * Refusals: 10 if calls_len is no multiple of 4 or above NESTED_GCC_CALLS_BYTES, or the session would come to more
+ *     than 2^63 calls; then 9 if answers_words, the number of words of 32 bits at answers, is below two a call.
+ *     Neither state nor answers are touched. A list without calls is good: it says how the session stands.
+ * Answers past two words a call, and masks past the n-th, stay as they are.
+ *
+ * Stack: @@STEP@@
+ */
+static inline uint32_t nested_gcc_step(nested_gcc_state *state, const uint8_t *calls, size_t calls_len,
+                                       uint32_t *answers, size_t answers_words) {
+    return nested_gcc_step_in(calls, calls_len, answers, answers_words, state->masks, NESTED_GCC_SLOTS_MOST,
+                              state->cells, NESTED_GCC_CELLS, state->trail, NESTED_GCC_TRAIL_BYTES,
+                              state->heights, NESTED_GCC_MARKS_MOST, state->record, NESTED_GCC_RECORD_NUMBERS);
+}
+
+/*
+ * Makes one call on the state: puts the two words that a list of this call would get into answer, and answers the
+ * first of them. The premise is that of nested_gcc_step. A kind above 7 is refused by 11, a slot from n up by 12, a
+ * type from k up by 13, however large. Fields that the kind does not use are not looked at. After 2^63 calls the words
+ * are NESTED_GCC_CALL_LIST and 0, and nothing changes.
+ *
+ * Stack: as nested_gcc_step.
+ */
+static inline uint32_t nested_gcc_call(nested_gcc_state *state, uint32_t kind, uint32_t type, uint32_t slot,
+                                       uint32_t answer[2]) {
+    nested_gcc_words words =
+        nested_gcc_call_in(kind, type, slot, state->masks, NESTED_GCC_SLOTS_MOST, state->cells, NESTED_GCC_CELLS,
+                           state->trail, NESTED_GCC_TRAIL_BYTES, state->heights, NESTED_GCC_MARKS_MOST,
+                           state->record, NESTED_GCC_RECORD_NUMBERS);
+    answer[0] = words.first;
+    answer[1] = words.second;
+    return words.first;
+}
+
+/* How a session stands. */
+#define NESTED_GCC_STANDING_LIVE 0u
+#define NESTED_GCC_STANDING_DEAD 1u        /* died of a call; a back makes it live again */
+#define NESTED_GCC_STANDING_OPENED_DEAD 2u /* the book is dead; this stays */
+
+/* What an opened state says of its session. These read only. */
+
+static inline uint32_t nested_gcc_standing(const nested_gcc_state *state) {
+    return (uint32_t)state->record[3];
+}
+
+/* The number of the call that the session died of, counted from 0 over all steps and calls; 0 unless the standing is
+ * NESTED_GCC_STANDING_DEAD. */
+static inline uint64_t nested_gcc_dead_call(const nested_gcc_state *state) {
+    return (uint64_t)state->record[4];
+}
+
+/* How many calls were made since the opening, refused ones included: the number of the next call. */
+static inline uint64_t nested_gcc_calls_made(const nested_gcc_state *state) {
+    return (uint64_t)state->record[2];
+}
+
+static inline uint32_t nested_gcc_open_marks(const nested_gcc_state *state) {
+    return (uint32_t)state->record[5];
+}
+
+/* n: so many of the state's masks are those of slots. */
+static inline uint32_t nested_gcc_slots(const nested_gcc_state *state) {
+    return (uint32_t)state->record[0];
+}
+
+/* k. */
+static inline uint32_t nested_gcc_types(const nested_gcc_state *state) {
+    return (uint32_t)state->record[1];
+}
 
 #ifdef __cplusplus
 }

@@ -1,7 +1,7 @@
-//! Searches for a plan, depth first, with the session as the filter: `cargo run --release --example search`. The book and
-//! the search are those of `examples/search.c`, which says how the search goes and what it costs.
+//! Searches for a plan, depth first, with a kept session as the filter: `cargo run --release --example search`. The book
+//! and the search are those of `examples/search.c`, which says how the search goes, what it counts and what it costs.
 
-use nested_gcc::{session, Answer, Book, Calls, Refusal, Verdict};
+use nested_gcc::{Book, CallRefusal, Live, Standing};
 
 pub const SLOTS: u16 = 16;
 pub const TYPES: u8 = 4;
@@ -13,64 +13,34 @@ pub const MASKS: [u32; SLOTS as usize] = [7, 7, 7, 7, 13, 13, 13, 13, 14, 14, 14
 pub const ROWS: [(u8, u16, u16, Option<u16>); 5] =
     [(0, 6, 0, Some(2)), (1, 12, 6, None), (1, 16, 8, None), (2, 14, 2, None), (3, 16, 3, None)];
 
-/// A slot and a type.
-#[derive(Clone, Copy)]
-enum Decision {
-    Assign(u16, u8),
-    Remove(u16, u8),
-}
-
-/// What a search has done so far.
-#[derive(Default)]
+/// What a search has come to.
 struct Search {
-    /// The decisions in force: the way from the opened book to where the search is.
-    way: Vec<Decision>,
-    sessions: usize,
-    ended_dead: usize,
+    session: Live,
+    nodes: usize,
+    dead: usize,
 }
 
 impl Search {
-    /// The first plan, each slot's type as a mask, or `None` if there is none.
-    fn run(&mut self, book: &[u8]) -> Result<Option<Vec<u32>>, Refusal> {
-        loop {
-            match self.masks(book)? {
-                None if !self.go_back() => return Ok(None),
-                None => {}
-                Some(masks) => match masks.iter().position(|mask| mask.count_ones() > 1) {
-                    None => return Ok(Some(masks)),
-                    Some(slot) => {
-                        self.way.push(Decision::Assign(slot as u16, masks[slot].trailing_zeros() as u8))
-                    }
-                },
-            }
+    /// Whether there is a plan from where the session stands; the masks then have one type each.
+    fn run(&mut self) -> Result<bool, CallRefusal> {
+        self.nodes += 1;
+        if self.session.standing() != Standing::Live {
+            self.dead += 1;
+            return Ok(false);
         }
-    }
-
-    /// The masks at the end of the way, or `None` if it ends dead. All but its last decision were live before.
-    fn masks(&mut self, book: &[u8]) -> Result<Option<Vec<u32>>, Refusal> {
-        let mut calls = Calls::new();
-        for &decision in &self.way {
-            match decision {
-                Decision::Assign(slot, board_type) => calls.assign(slot, board_type),
-                Decision::Remove(slot, board_type) => calls.remove(slot, board_type),
-            };
+        let masks = self.session.masks();
+        let Some(slot) = masks.iter().position(|mask| mask.count_ones() > 1) else {
+            return Ok(true);
+        };
+        let (slot, lowest) = (slot as u16, masks[slot].trailing_zeros() as u8);
+        self.session.mark()?;
+        let _ = self.session.assign(slot, lowest)?;
+        if self.run()? {
+            return Ok(true);
         }
-        let ran = session(book, calls.as_bytes())?;
-        let dead = ran.opened == Verdict::Dead || ran.answers.last() == Some(&Answer::Dead);
-        self.sessions += 1;
-        self.ended_dead += usize::from(dead);
-        Ok((!dead).then_some(ran.masks))
-    }
-
-    /// Drops the last decisions up to the latest assign, and turns that one into a remove; false if there is none.
-    fn go_back(&mut self) -> bool {
-        while let Some(decision) = self.way.pop() {
-            if let Decision::Assign(slot, board_type) = decision {
-                self.way.push(Decision::Remove(slot, board_type));
-                return true;
-            }
-        }
-        false
+        self.session.back()?;
+        let _ = self.session.remove(slot, lowest)?;
+        self.run()
     }
 }
 
@@ -97,13 +67,15 @@ fn keeps_masks_and_rows(plan: &[u32]) -> bool {
 
 /// What the program prints.
 pub fn report() -> String {
-    let mut search = Search::default();
-    let Some(plan) = search.run(&book()).expect("the book is good, and the lists are short") else {
+    let session = Live::open(&book()).expect("the book is good");
+    let mut search = Search { session, nodes: 0, dead: 0 };
+    if !search.run().expect("no call is refused") {
         return "no plan\n".to_string();
-    };
-    assert!(keeps_masks_and_rows(&plan), "the masks or the rows are broken: {plan:?}");
+    }
+    let plan = search.session.masks();
+    assert!(keeps_masks_and_rows(plan), "the masks or the rows are broken: {plan:?}");
     let types: String = plan.iter().map(|slot| format!(" {}", slot.trailing_zeros())).collect();
-    format!("plan{types}\nsessions {}, of which {} ended dead\n", search.sessions, search.ended_dead)
+    format!("plan{types}\nnodes {}, of which {} dead\n", search.nodes, search.dead)
 }
 
 #[allow(dead_code)] // the test includes this file as a module

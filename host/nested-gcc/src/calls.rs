@@ -1,4 +1,4 @@
-/// A list of calls to be written, for [`session`](crate::session).
+/// A list of calls to be written, for [`session`](crate::session) and [`Live::run`](crate::Live::run).
 ///
 /// It writes what it is given and judges nothing. Fields that a kind of call does not use are written as 0.
 ///
@@ -15,6 +15,11 @@
 ///         4, 0, 0, 0, // back
 ///     ]
 /// );
+/// assert_eq!(calls.len(), 3);
+///
+/// // What was written last is taken out again.
+/// assert_eq!(calls.pop(), Some([4, 0, 0, 0]));
+/// assert_eq!(calls.truncate(1).as_bytes(), [3, 0, 0, 0]);
 /// ```
 #[derive(Clone, Debug, Default, PartialEq, Eq, Hash)]
 pub struct Calls {
@@ -61,6 +66,29 @@ impl Calls {
     /// Kind 7: counts the lower walls of the type.
     pub fn lower_walls(&mut self, board_type: u8) -> &mut Calls {
         self.push(7, board_type, 0)
+    }
+
+    /// How many calls the list has.
+    pub fn len(&self) -> usize {
+        self.bytes.len() / 4
+    }
+
+    /// Whether the list has no calls.
+    pub fn is_empty(&self) -> bool {
+        self.bytes.is_empty()
+    }
+
+    /// Keeps the first `calls` calls. A list that has no more stays as it is.
+    pub fn truncate(&mut self, calls: usize) -> &mut Calls {
+        self.bytes.truncate(calls.saturating_mul(4));
+        self
+    }
+
+    /// Takes the last call out of the list: its 4 bytes, or `None` if there is none.
+    pub fn pop(&mut self) -> Option<[u8; 4]> {
+        let last = self.bytes.last_chunk().copied()?;
+        self.truncate(self.len() - 1);
+        Some(last)
     }
 
     /// The bytes of the list.

@@ -3,10 +3,13 @@
 //! - [`check`] says whether bytes are a good book, or else the first [`Refusal`].
 //! - [`close`] gives the bounds that follow from the rows of a book, as a [`Table`], or says that it is dead.
 //! - [`settle`] gives the types that each slot may still have, or says that the book is dead.
-//! - [`session`] makes a list of calls on a settled book, assigning and removing types with marks to go back
-//!   to, and gives an [`Answer`] to each call and the last masks.
+//! - [`Live`] is a session for a search: opened once on a book, it assigns and removes types, with marks to go back to,
+//!   from where it stands.
+//! - [`session`] makes a whole list of such calls from the book's opening, and gives an [`Answer`] to each call and the
+//!   last masks.
 //! - [`close_into`], [`settle_into`] and [`session_into`] write the same into the caller's bytes.
 //! - [`Book`] writes the bytes of a book, [`Calls`] those of a list of calls.
+//! - [`version`] says which version of the archive is linked.
 //!
 //! What a good book, a live one and each answer are is in `docs/SPECIFICATION.md` of the repository; what is left to
 //! whoever links the archive, the stack of a thread above all, in `docs/ASSUMPTIONS.md`.
@@ -28,16 +31,22 @@
 
 mod book;
 mod calls;
+mod live;
 mod refusal;
 mod session;
 mod sys;
 mod table;
+mod version;
 
 pub use book::Book;
 pub use calls::Calls;
+pub use live::{Decided, Live, Standing};
 pub use refusal::{CallRefusal, Refusal};
 pub use session::{session, session_into, Answer, Session};
 pub use table::Table;
+pub use version::{version, Version};
+
+use session::answer;
 
 /// The most slots of a good book; the least is 1.
 pub const SLOTS_MOST: usize = 256;
@@ -63,7 +72,7 @@ pub const TABLE_BYTES: usize = 2 * TYPES_MOST * (SLOTS_MOST + 1);
 /// The most bytes of masks that [`settle_into`] and [`session_into`] write: 4 for each of 256 slots.
 pub const MASKS_BYTES: usize = 4 * SLOTS_MOST;
 
-/// The most bytes of calls that [`session`] takes: 4 for each of 4096 calls.
+/// The most bytes of calls that [`session`] takes: 4 for each of 4096 calls. [`Live::run`] takes longer lists too.
 pub const CALLS_BYTES: usize = 4 * 4096;
 
 /// The most bytes of answers that [`session_into`] writes: two words of 4 bytes for each of 4096 calls.

@@ -34,7 +34,7 @@ pub enum Refusal {
     RowBound,
     /// 9: a lent output too short.
     OutputTooShort,
-    /// 10: call list not whole calls, or over 16,384 bytes.
+    /// 10: call list not whole calls, or over 16,384 bytes; [`Live::run`](crate::Live::run) takes longer ones.
     CallList,
 }
 

@@ -76,46 +76,31 @@ impl Answer {
 ///
 /// # Example
 ///
-/// A search for a plan, depth first. The calls made so far are the way to the present masks, and each step
-/// makes the list again with a few calls more. A list has at most 4096 calls, so this is for small books; the
-/// program `examples/search.rs` sends the decisions in force alone.
+/// A list that tries two decisions and takes the first back. Each list opens the book anew: a search, which goes on from
+/// where it stands, is for [`Live`](crate::Live).
 ///
 /// ```
-/// use nested_gcc::{session, Answer, Book, Calls, Refusal};
+/// use nested_gcc::{session, Answer, Book, Calls, Refusal, Verdict};
 ///
-/// /// The first plan, each slot's type as a mask, or `None` if there is none.
-/// fn search(book: &[u8], calls: &mut Calls) -> Result<Option<Vec<u32>>, Refusal> {
-///     let masks = session(book, calls.as_bytes())?.masks;
-///     let Some(slot) = masks.iter().position(|mask| mask.count_ones() != 1) else {
-///         return Ok(Some(masks));
-///     };
-///     for board_type in (0..32).filter(|v| masks[slot] >> v & 1 == 1) {
-///         calls.mark().assign(slot as u16, board_type);
-///         let tried = session(book, calls.as_bytes())?;
-///         if tried.answers.last() != Some(&Answer::Dead) {
-///             if let Some(plan) = search(book, calls)? {
-///                 return Ok(Some(plan));
-///             }
-///         }
-///         calls.back();
-///     }
-///     Ok(None)
-/// }
-///
-/// // Four slots and three types: one of type 2 within the first two slots, two within all; at most one of type 0.
-/// let book = Book::new(4, 3).row(2, 2, 1, Some(1)).row(2, 4, 2, Some(2)).row(0, 4, 0, Some(1)).to_bytes();
-/// assert_eq!(search(&book, &mut Calls::new())?, Some(vec![0b001, 0b100, 0b010, 0b100]));
-///
-/// // Three slots have only the types 0 and 1, each at most once.
-/// let book = Book::new(4, 4).mask(0, 3).mask(1, 3).mask(2, 3).row(0, 4, 0, Some(1)).row(1, 4, 0, Some(1));
-/// assert_eq!(search(&book.to_bytes(), &mut Calls::new())?, None);
+/// // Three slots and two types; of type 0 at least one within the first two slots.
+/// let book = Book::new(3, 2).row(0, 2, 1, None).to_bytes();
+/// let mut calls = Calls::new();
+/// calls.mark().assign(0, 1).show(1).back().remove(1, 0);
+/// let ran = session(&book, calls.as_bytes())?;
+/// assert_eq!(ran.opened, Verdict::Live);
+/// let struck = Answer::Live { struck: 2 };
+/// assert_eq!(ran.answers, [Answer::Done, struck, Answer::Value(0b01), Answer::Done, struck]);
+/// assert_eq!(ran.masks, [0b01, 0b10, 0b11]);
 /// # Ok::<(), Refusal>(())
 /// ```
 pub fn session(book: &[u8], calls: &[u8]) -> Result<Session, Refusal> {
     let mut answers = vec![0; ANSWERS_BYTES];
     let mut masks = [0; MASKS_BYTES];
     let opened = session_into(book, calls, &mut answers, &mut masks)?;
-    let answers = words(&answers[..2 * calls.len()]).chunks_exact(2).map(answer).collect();
+    let answers = words(&answers[..2 * calls.len()])
+        .chunks_exact(2)
+        .map(|words| answer("nested_gcc_session", [words[0], words[1]]))
+        .collect();
     Ok(Session { opened, answers, masks: words(&masks[..4 * slots(book)]) })
 }
 
@@ -155,9 +140,10 @@ pub fn session_into(
     verdict("nested_gcc_session", sys::session(book, calls, answers, masks))
 }
 
-fn answer(words: &[u32]) -> Answer {
-    match Answer::from_words([words[0], words[1]]) {
+/// The answer to a call for which `function` has these words.
+pub(crate) fn answer(function: &str, words: [u32; 2]) -> Answer {
+    match Answer::from_words(words) {
         Some(answer) => answer,
-        None => panic!("nested_gcc_session wrote the words {words:?}, which are no answer to a call"),
+        None => panic!("{function} has the words {words:?}, which are no answer to a call"),
     }
 }

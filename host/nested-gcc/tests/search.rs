@@ -1,6 +1,6 @@
-//! The search examples: what `examples/search.c` and `host/nested-gcc/examples/search.rs` print is held to the file
-//! examples/search.expected, and that file here to a search that has nothing of the library: the plan by trying all
-//! plans in order, the numbers of sessions by the same search on the plain machine.
+//! The search examples: what `examples/search.c`, `examples/search.cpp` and `host/nested-gcc/examples/search.rs` print is
+//! held to the file examples/search.expected, and that file here to a search that has nothing of the library: the plan
+//! by trying all plans in order, the numbers of nodes by the same search on the plain machine.
 
 #[path = "../examples/search.rs"]
 mod search;
@@ -47,13 +47,13 @@ fn first_plan(book: &Book, begun: &mut Vec<usize>) -> bool {
 
 #[derive(Default)]
 struct Count {
-    machines: usize,
+    nodes: usize,
     dead: usize,
 }
 
 /// Assigns the first slot with more than one type its lowest; where that leads to no plan, removes it instead.
 fn search_plainly(machine: &Machine, count: &mut Count) -> Option<Vec<u32>> {
-    count.machines += 1;
+    count.nodes += 1;
     count.dead += usize::from(machine.dead);
     if machine.dead {
         return None;
@@ -84,11 +84,7 @@ fn what_is_expected_is_the_first_plan_and_the_plain_machines_numbers() {
     assert_eq!(masks, plan.iter().map(|board_type| 1 << board_type).collect::<Vec<u32>>());
     assert!(count.dead > 0, "the search never goes back");
     let types: Vec<String> = plan.iter().map(usize::to_string).collect();
-    let report = format!(
-        "plan {}\nsessions {}, of which {} ended dead\n",
-        types.join(" "),
-        count.machines,
-        count.dead
-    );
+    let report =
+        format!("plan {}\nnodes {}, of which {} dead\n", types.join(" "), count.nodes, count.dead);
     assert_eq!(report, EXPECTED);
 }
