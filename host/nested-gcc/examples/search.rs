@@ -1,7 +1,7 @@
 //! Searches for a plan, depth first, with a kept session as the filter: `cargo run --release --example search`. The book
 //! and the search are those of `examples/search.c`, which says how the search goes, what it counts and what it costs.
 
-use nested_gcc::{Book, CallRefusal, Live, Standing};
+use nested_gcc::{Book, CallRefusal, Decided, Live, Standing};
 
 pub const SLOTS: u16 = 16;
 pub const TYPES: u8 = 4;
@@ -21,10 +21,10 @@ struct Search {
 }
 
 impl Search {
-    /// Whether there is a plan from where the session stands; the masks then have one type each.
-    fn run(&mut self) -> Result<bool, CallRefusal> {
+    /// Whether there is a plan from where the session stands, live or dead; the masks then have one type each.
+    fn run(&mut self, live: bool) -> Result<bool, CallRefusal> {
         self.nodes += 1;
-        if self.session.standing() != Standing::Live {
+        if !live {
             self.dead += 1;
             return Ok(false);
         }
@@ -34,13 +34,13 @@ impl Search {
         };
         let (slot, lowest) = (slot as u16, masks[slot].trailing_zeros() as u8);
         self.session.mark()?;
-        let _ = self.session.assign(slot, lowest)?;
-        if self.run()? {
+        let assigned = self.session.assign(slot, lowest)?;
+        if self.run(assigned != Decided::Dead)? {
             return Ok(true);
         }
         self.session.back()?;
-        let _ = self.session.remove(slot, lowest)?;
-        self.run()
+        let removed = self.session.remove(slot, lowest)?;
+        self.run(removed != Decided::Dead)
     }
 }
 
@@ -68,8 +68,9 @@ fn keeps_masks_and_rows(plan: &[u32]) -> bool {
 /// What the program prints.
 pub fn report() -> String {
     let session = Live::open(&book()).expect("the book is good");
+    let live = session.standing() == Standing::Live;
     let mut search = Search { session, nodes: 0, dead: 0 };
-    if !search.run().expect("no call is refused") {
+    if !search.run(live).expect("no call is refused") {
         return "no plan\n".to_string();
     }
     let plan = search.session.masks();

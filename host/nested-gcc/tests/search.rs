@@ -84,7 +84,6 @@ fn what_is_expected_is_the_first_plan_and_the_plain_machines_numbers() {
     assert_eq!(masks, plan.iter().map(|board_type| 1 << board_type).collect::<Vec<u32>>());
     assert!(count.dead > 0, "the search never goes back");
     let types: Vec<String> = plan.iter().map(usize::to_string).collect();
-    let report =
-        format!("plan {}\nnodes {}, of which {} dead\n", types.join(" "), count.nodes, count.dead);
+    let report = format!("plan {}\nnodes {}, of which {} dead\n", types.join(" "), count.nodes, count.dead);
     assert_eq!(report, EXPECTED);
 }

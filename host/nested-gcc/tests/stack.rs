@@ -6,10 +6,11 @@ mod chains;
 use std::ffi::c_void;
 use std::fmt::Debug;
 use std::ptr;
+use std::thread;
 
 use nested_gcc::{
-    check, close_into, session_into, settle_into, Book, Calls, Refusal, Verdict, ANSWERS_BYTES, MASKS_BYTES,
-    TABLE_BYTES,
+    check, close_into, session_into, settle_into, Book, CallRefusal, Calls, Decided, Live, Refusal, Standing,
+    Verdict, ANSWERS_BYTES, MASKS_BYTES, TABLE_BYTES,
 };
 use random_books::{bytes, masks_around, near_plan, plan, Random};
 
@@ -21,6 +22,11 @@ const CHECK: usize = 4 * 1024;
 const CLOSE: usize = 48 * 1024;
 const SETTLE: usize = 320 * 1024;
 const SESSION: usize = 512 * 1024;
+const OPEN: usize = 256 * 1024;
+const STEP: usize = 256 * 1024;
+
+/// What some C libraries give a thread by default. It suffices for a kept session on the random books.
+const SMALL_THREAD: usize = 128 * 1024;
 
 const STACK: usize = 1024 * 1024;
 const PAINT: u8 = 0xa5;
@@ -210,6 +216,68 @@ fn session_needs_at_most_the_promised_stack() {
     measure(SESSION, |book| session_into(book, calls.as_bytes(), &mut answers, &mut masks[1..]), &short);
 }
 
+/// The opening of a kept session. What the Rust crate does beside calling the library, an allocation, is counted too.
+#[test]
+fn open_needs_at_most_the_promised_stack() {
+    let longest = almost_longest().row(31, 256, 8, None);
+    let late_fault = almost_longest().row(31, 256, 257, None);
+    // 32 types with at least 8 each in 256 slots leave no room for a ninth.
+    let dead = almost_longest().row(31, 256, 9, None);
+    let books = [
+        ("open: the longest book", longest.to_bytes(), Ok(Standing::Live)),
+        ("open: a dead book", dead.to_bytes(), Ok(Standing::OpenedDead)),
+        ("open: a chain of strikes", chains::strikes().to_bytes(), Ok(Standing::Live)),
+        ("open: a chain of fixes", chains::fixes().to_bytes(), Ok(Standing::Live)),
+        ("open: a fault in the last row", late_fault.to_bytes(), Err(Refusal::RowBound)),
+        ("open: the shortest book", Book::new(1, 1).to_bytes(), Ok(Standing::Live)),
+        ("open: no bytes", Vec::new(), Err(Refusal::TooShort)),
+    ];
+    measure(OPEN, |book| Live::open(book).map(|session| session.standing()), &books);
+}
+
+/// As `session_needs_at_most_the_promised_stack`, in steps and in calls on a session that is kept.
+#[test]
+fn steps_and_calls_need_at_most_the_promised_stack() {
+    // 32 types with at least 8 each in 256 slots leave no room for a ninth.
+    let dead = almost_longest().row(31, 256, 9, None);
+    let books = [
+        ("the longest book", almost_longest().row(31, 256, 8, None)),
+        ("a dead book", dead),
+        ("a chain of strikes", chains::strikes().mask(0, 3)),
+        ("a chain of fixes", chains::fixes().mask(0, 3)),
+        ("the shortest book", Book::new(1, 2)),
+    ];
+    let mut calls = Calls::new();
+    for _ in 0..256 {
+        calls.mark().assign(0, 0).back();
+    }
+    for slot in 0..256 {
+        calls.mark().remove(slot, 31);
+    }
+    for _ in 0..256 {
+        calls.back().show(0).upper_walls(0).lower_walls(0);
+    }
+    let mut answers = vec![0; 2 * calls.len()];
+    for (name, book) in books {
+        let mut session = Live::open(&book.to_bytes()).expect("a good book");
+        let live = session.standing() == Standing::Live;
+        let mut answer = None;
+        let needed = bytes_needed(&mut || answer = Some(session.run_into(calls.as_bytes(), &mut answers)));
+        assert_eq!(answer, Some(Ok(if live { Verdict::Live } else { Verdict::Dead })), "{name}");
+        assert_step(&format!("step: {name}"), needed);
+        let refused = if live { CallRefusal::NoOpenMark } else { CallRefusal::WhileDead };
+        let mut decided = Err(refused);
+        let needed = bytes_needed(&mut || decided = session.assign(0, 0));
+        assert_eq!(matches!(decided, Ok(Decided::Live { .. })), live, "{name}: {decided:?}");
+        assert_step(&format!("call: {name}"), needed);
+    }
+}
+
+fn assert_step(name: &str, needed: Needed) {
+    println!("{name}: {} bytes of stack, {} of the thread", needed.call, needed.thread);
+    assert!(needed.call <= STEP, "{name}: {} bytes of stack", needed.call);
+}
+
 /// A book of 256 slots and 2 to 32 types around a plan, which it keeps, and a list of up to 400 decisions, marks and
 /// backs.
 fn random_book_and_calls(random: &mut Random) -> (Vec<u8>, Calls) {
@@ -240,7 +308,9 @@ fn random_books_need_at_most_the_promised_stack() {
     let mut random = Random::new(1_234_567);
     let mut answers = vec![0; ANSWERS_BYTES];
     let mut masks = [0; MASKS_BYTES];
-    let (mut settling, mut session) = (Vec::new(), Vec::new());
+    let (mut settling, mut session, mut opening, mut steps) =
+        (Vec::new(), Vec::new(), Vec::new(), Vec::new());
+    let mut words = vec![0; ANSWERS_BYTES / 4];
     for _ in 0..BOOKS {
         let (book, calls) = random_book_and_calls(&mut random);
         let mut answer = None;
@@ -250,13 +320,44 @@ fn random_books_need_at_most_the_promised_stack() {
             answer = Some(session_into(&book, calls.as_bytes(), &mut answers, &mut masks));
         }));
         assert_eq!(answer, Some(Ok(Verdict::Live)));
+        let mut kept = None;
+        opening.push(bytes_needed(&mut || kept = Live::open(&book).ok()));
+        let mut kept = kept.expect("a good book");
+        let mut ran = None;
+        steps.push(bytes_needed(&mut || ran = Some(kept.run_into(calls.as_bytes(), &mut words))));
+        assert!(ran.is_some_and(|ran| ran.is_ok()));
     }
-    for (name, needed, promised) in [("settle", settling, SETTLE), ("session", session, SESSION)] {
+    let measured = [
+        ("settle", settling, SETTLE),
+        ("session", session, SESSION),
+        ("open", opening, OPEN),
+        ("step", steps, STEP),
+    ];
+    for (name, needed, promised) in measured {
         let mut calls: Vec<usize> = needed.iter().map(|needed| needed.call).collect();
         calls.sort();
         let (least, middle, most) = (calls[0], calls[BOOKS / 2], calls[BOOKS - 1]);
         let thread = needed.iter().map(|needed| needed.thread).max().unwrap_or(0);
         println!("{name} on random books: {least}, {middle}, {most} bytes of stack, {thread} of the thread");
         assert!(most <= promised, "{name}: {most} bytes of stack");
+        if ["open", "step"].contains(&name) {
+            assert!(thread < SMALL_THREAD, "{name}: {thread} bytes of a thread's stack");
+        }
+    }
+}
+
+/// A kept session lives in a thread of 128 KiB, on random books.
+#[test]
+fn small_threads() {
+    let mut random = Random::new(7_654_321);
+    for _ in 0..BOOKS / 10 {
+        let (book, calls) = random_book_and_calls(&mut random);
+        let search = move || {
+            let mut session = Live::open(&book).expect("a good book");
+            let answers = session.run(calls.as_bytes()).expect("an accepted list");
+            assert_eq!(answers.len(), calls.len());
+        };
+        let thread = thread::Builder::new().stack_size(SMALL_THREAD).spawn(search);
+        thread.expect("a thread").join().expect("the search ends");
     }
 }

@@ -7,13 +7,16 @@
 //! - [`close`]: the loosest closed table, or dead.
 //! - [`settle`]: the largest stable list, or dead.
 //! - [`Machine`]: the plain machine of sessions, call by call.
+//! - [`Kept`]: a kept session, the plain machine with the number of calls made and the standing.
 
 mod book;
 mod closing;
+mod kept;
 mod machine;
 mod settling;
 
 pub use book::{refusal, Book, Row};
 pub use closing::{close, start, Closing, Table};
+pub use kept::{Kept, Standing};
 pub use machine::{Machine, Walls};
 pub use settling::{settle, Death, Settling};
