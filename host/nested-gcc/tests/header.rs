@@ -1,23 +1,12 @@
 //! The sizes that `include/nested_gcc.h` names and those of this crate: every number is typed by hand.
 
+mod defined;
+
+use defined::defined;
 use nested_gcc::{
     ANSWERS_BYTES, BOOK_BYTES, CALLS_BYTES, MARKS_MOST, MASKS_BYTES, NO_UPPER, ROWS_MOST, SLOTS_MOST,
     TABLE_BYTES, TYPES_MOST,
 };
-
-const HEADER: &str = include_str!("../../../include/nested_gcc.h");
-
-/// The number that the header defines the name as.
-fn defined(name: &str) -> usize {
-    let numbers: Vec<&str> = HEADER
-        .lines()
-        .filter_map(|line| line.strip_prefix("#define ")?.strip_prefix(name)?.strip_prefix(' '))
-        .filter_map(|rest| rest.split_whitespace().next())
-        .collect();
-    assert_eq!(numbers.len(), 1, "the header defines {name} once");
-    let digits = numbers[0].strip_suffix('u').expect("an unsigned number");
-    digits.parse().expect("a number")
-}
 
 #[test]
 fn the_sizes_are_the_same_in_the_header_and_here() {
@@ -35,5 +24,21 @@ fn the_sizes_are_the_same_in_the_header_and_here() {
     ];
     for (name, here, typed) in sizes {
         assert_eq!((defined(name), here), (typed, typed), "{name}");
+    }
+}
+
+/// Those that only the header names: the sizes of a state, and how a session stands.
+#[test]
+fn the_numbers_of_a_kept_session() {
+    let numbers = [
+        ("NESTED_GCC_RECORD_NUMBERS", 7),
+        ("NESTED_GCC_CELLS", 16528),
+        ("NESTED_GCC_TRAIL_BYTES", 25088),
+        ("NESTED_GCC_STANDING_LIVE", 0),
+        ("NESTED_GCC_STANDING_DEAD", 1),
+        ("NESTED_GCC_STANDING_OPENED_DEAD", 2),
+    ];
+    for (name, typed) in numbers {
+        assert_eq!(defined(name), typed, "{name}");
     }
 }
