@@ -8,6 +8,7 @@ static const uint8_t book[] = {
     3, 0, 0, 0,                             /* mask */
 };
 static const uint8_t call[] = { NESTED_GCC_SHOW, 0, 0, 0 };
+static nested_gcc_state state;
 
 static void print(const char *what, uint32_t answer) {
     printf("%s: %u\n", what, (unsigned)answer);
@@ -31,5 +32,10 @@ int main(void) {
     print("session, no calls and no answers",
           nested_gcc_session(book, sizeof book, NULL, 0, NULL, 0, masks, sizeof masks));
     printf("mask of slot 0: %u\n", masks[0]);
+    print("open, no book", nested_gcc_open(NULL, 0, &state));
+    print("open", nested_gcc_open(book, sizeof book, &state));
+    print("step, no calls and no answers", nested_gcc_step(&state, NULL, 0, NULL, 0));
+    print("step, a call and no answers", nested_gcc_step(&state, call, sizeof call, NULL, 0));
+    printf("calls made: %u\n", (unsigned)nested_gcc_calls_made(&state));
     return 0;
 }

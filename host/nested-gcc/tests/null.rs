@@ -6,7 +6,47 @@ use std::ptr::{null, null_mut};
 // The crate has the archive linked.
 use nested_gcc as _;
 
+#[repr(C)]
+#[derive(Clone, Copy)]
+struct State {
+    record: [usize; 7],
+    masks: [u32; 256],
+    cells: [u16; 16528],
+    heights: [u16; 256],
+    trail: [u8; 25088],
+}
+
 extern "C" {
+    fn nested_gcc_open_in(
+        book: *const u8,
+        book_len: usize,
+        masks: *mut u32,
+        masks_len: usize,
+        cells: *mut u16,
+        cells_len: usize,
+        trail: *mut u8,
+        trail_len: usize,
+        heights: *mut u16,
+        heights_len: usize,
+        record: *mut usize,
+        record_len: usize,
+    ) -> u32;
+    fn nested_gcc_step_in(
+        calls: *const u8,
+        calls_len: usize,
+        answers: *mut u32,
+        answers_len: usize,
+        masks: *mut u32,
+        masks_len: usize,
+        cells: *mut u16,
+        cells_len: usize,
+        trail: *mut u8,
+        trail_len: usize,
+        heights: *mut u16,
+        heights_len: usize,
+        record: *mut usize,
+        record_len: usize,
+    ) -> u32;
     fn nested_gcc_check(book: *const u8, book_len: usize) -> u32;
     fn nested_gcc_close(
         book: *const u8,
@@ -155,4 +195,122 @@ fn session_with_null() {
     // Nothing NULL: the value 3.
     let whole = (0, [2, 0, 0, 0, 3, 0, 0, 0, OLD], [3, 0, 0, 0, OLD]);
     assert_eq!(session(Some(&LIVE), Some(&CALL), true, true), whole);
+}
+
+/// A state, all of its numbers 7.
+fn painted() -> Box<State> {
+    Box::new(State {
+        record: [7; 7],
+        masks: [7; 256],
+        cells: [7; 16528],
+        heights: [7; 256],
+        trail: [7; 25088],
+    })
+}
+
+/// `nested_gcc_open_in` with `None` as NULL and 0 for the book, and so too for the slices of the state that are not lent:
+/// masks, cells, trail, heights, record.
+fn open(book: Option<&[u8]>, lent: [bool; 5], state: &mut State) -> u32 {
+    fn part<T>(lent: bool, slice: &mut [T]) -> (*mut T, usize) {
+        if lent {
+            (slice.as_mut_ptr(), slice.len())
+        } else {
+            (null_mut(), 0)
+        }
+    }
+    let (book_at, book_len) = book.map_or((null(), 0), |book| (book.as_ptr(), book.len()));
+    let (masks_at, masks_len) = part(lent[0], &mut state.masks);
+    let (cells_at, cells_len) = part(lent[1], &mut state.cells);
+    let (trail_at, trail_len) = part(lent[2], &mut state.trail);
+    let (heights_at, heights_len) = part(lent[3], &mut state.heights);
+    let (record_at, record_len) = part(lent[4], &mut state.record);
+    // SAFETY: each pointer has so many elements, apart from the others, or is NULL with length 0.
+    unsafe {
+        nested_gcc_open_in(
+            book_at,
+            book_len,
+            masks_at,
+            masks_len,
+            cells_at,
+            cells_len,
+            trail_at,
+            trail_len,
+            heights_at,
+            heights_len,
+            record_at,
+            record_len,
+        )
+    }
+}
+
+fn is_painted(state: &State) -> bool {
+    let State { record, masks, cells, heights, trail } = state;
+    *record == [7; 7]
+        && *masks == [7; 256]
+        && *cells == [7; 16528]
+        && *heights == [7; 256]
+        && *trail == [7; 25088]
+}
+
+#[test]
+fn open_with_null() {
+    let all = [true; 5];
+    let mut state = painted();
+    for mask in 0..32u8 {
+        let lent = [0, 1, 2, 3, 4].map(|slice| mask >> slice & 1 == 1);
+        assert_eq!(open(None, lent, &mut state), 257, "{lent:?}");
+        if lent != all {
+            assert_eq!(open(Some(&LIVE), lent, &mut state), 265, "{lent:?}");
+            assert_eq!(open(Some(&DEAD), lent, &mut state), 265, "{lent:?}");
+        }
+        assert!(is_painted(&state), "{lent:?}");
+    }
+    assert_eq!(open(Some(&LIVE), all, &mut state), 0);
+    assert_eq!((state.masks[0], state.masks[1], state.record[0]), (3, 7, 1));
+}
+
+/// `nested_gcc_step_in` with `None` as NULL and 0, and what it left in the answers.
+fn step(state: &mut State, calls: Option<&[u8]>, with_answers: bool) -> (u32, [u32; 3]) {
+    let mut answers = [7; 3];
+    let (calls_at, calls_len) = calls.map_or((null(), 0), |calls| (calls.as_ptr(), calls.len()));
+    let (answers_at, answers_len) = if with_answers { (answers.as_mut_ptr(), 3) } else { (null_mut(), 0) };
+    // SAFETY: each pointer has so many elements, apart from the others, or is NULL with length 0; the state is opened.
+    let answer = unsafe {
+        nested_gcc_step_in(
+            calls_at,
+            calls_len,
+            answers_at,
+            answers_len,
+            state.masks.as_mut_ptr(),
+            256,
+            state.cells.as_mut_ptr(),
+            16528,
+            state.trail.as_mut_ptr(),
+            25088,
+            state.heights.as_mut_ptr(),
+            256,
+            state.record.as_mut_ptr(),
+            7,
+        )
+    };
+    (answer, answers)
+}
+
+#[test]
+fn step_with_null() {
+    for (book, stands) in [(&LIVE[..], 0), (&DEAD[..], 1)] {
+        let mut state = painted();
+        assert_eq!(open(Some(book), [true; 5], &mut state), stands);
+        // A list without calls is good, and needs no answers.
+        assert_eq!(step(&mut state, None, false), (stands, [7; 3]));
+        assert_eq!(step(&mut state, None, true), (stands, [7; 3]));
+        // 9: there is no room for the answer. 10 comes before 9.
+        assert_eq!(step(&mut state, Some(&CALL), false), (265, [7; 3]));
+        assert_eq!(step(&mut state, Some(&CALL[..3]), false), (266, [7; 3]));
+        assert_eq!(state.record[2], 0);
+        // Nothing NULL: the value 3, or 0 of a dead book.
+        let mask = if stands == 0 { 3 } else { 0 };
+        assert_eq!(step(&mut state, Some(&CALL), true), (stands, [2, mask, 7]));
+        assert_eq!(state.record[2], 1);
+    }
 }
