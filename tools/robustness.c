@@ -1,11 +1,12 @@
 /*
- * Random and damaged inputs for the four functions of nested_gcc.h, made and judged here; tools/robustness builds
+ * Random and damaged inputs for the functions of nested_gcc.h, made and judged here; tools/robustness builds
  * and runs it. As a program: robustness SEED FIRST COUNT runs the inputs FIRST to FIRST + COUNT - 1 of that seed
  * and prints how many of each kind gave each answer. An input follows from the seed and its number alone, so that a
  * failure is run again by its number. Built with -DFUZZ it is a target of libFuzzer instead.
  *
- * Each function runs twice on each input: once with every buffer against an unreadable page behind it, once with one
- * in front; the outputs hold other bytes each time, and for one input in eight the stack does. What must hold:
+ * Check, close, settle and session run twice on each input: once with every buffer against an unreadable page behind
+ * it, once with one in front; the outputs hold other bytes each time, and for one input in eight the stack does. What
+ * must hold:
  * - the answers are those that nested_gcc.h names, and agree with each other: close, settle and session refuse a book
  *   as check does, 10 and 9 are answered exactly where the lengths say so, a book dead in closing is dead in settling,
  *   and the session opens as settle answers;
@@ -14,7 +15,15 @@
  * - both runs answer and write the same;
  * - dead writes zeros; live writes lowers at most uppers, and masks that are not empty and lie within the book's; the
  *   words of a call are such as nested_gcc.h names, and the last masks of a session lie within those of settle.
- * With -DSHAM=1 to 8 a wrong library is judged, and must be found out: see `sham` below.
+ * Then the same book and calls go twice through a kept session (open, step, call), each time cut into other pieces, in
+ * a state that held other bytes, with lists and lengths to be refused between them and the state moved now and then.
+ * What must hold:
+ * - a refused open, a refused step, and an open with a slice too short leave every byte of the state as it was; open
+ *   answers as check, settle and session do;
+ * - after every piece the bytes about the state and the masks past the n-th are as they were, and what the state says
+ *   of itself (sizes, calls made, standing, marks) follows from the words so far;
+ * - the words and the last masks are those of session where it took the list, and the same both times where not.
+ * With -DSHAM=1 to 12 a wrong library is judged, and must be found out: see the functions `sham` below.
  */
 #define _DEFAULT_SOURCE
 #include "nested_gcc.h"
@@ -335,18 +344,244 @@ static void judge_outputs(const struct input *input) {
     }
 }
 
+/* ---- a kept session ---- */
+
+#define STATE_ROOM (16 * PAGE) /* a state, and more than GUARD bytes beside it */
+
+static struct region state_region;
+static uint8_t state_paints[2][STATE_ROOM]; /* what the region holds before an opening, on each pass */
+static const uint8_t *state_paint;
+static nested_gcc_state *kept; /* at one side of the region */
+static unsigned long opens[12], steps[12]; /* by answer: 0, 1, 257 to 266 */
+static unsigned long single_calls, moves;
+
+static void count_answer(unsigned long *counts, uint32_t answer) {
+    if (answer > 1 && (answer < 257 || answer > 266)) fail("open or step answers %u", (unsigned)answer);
+    counts[answer < 2 ? answer : answer - 255]++;
+}
+
+/* The words of all pieces so far, on each pass. */
+static uint32_t kept_words[2][2 * CALLS_ROOM / 4];
+
+/* How the pieces are cut: splitmix64 from a sum over the input, so that an input is cut alike whenever it is judged. */
+static uint64_t cut_state;
+
+static unsigned cut_below(unsigned limit) {
+    uint64_t z = cut_state += 0x9e3779b97f4a7c15u;
+    z = (z ^ z >> 30) * 0xbf58476d1ce4e5b9u;
+    z = (z ^ z >> 27) * 0x94d049bb133111ebu;
+    return (unsigned)(((z ^ z >> 31) >> 16) % limit);
+}
+
+static void seed_cuts(const struct input *input, int pass) {
+    size_t i;
+    cut_state = 1 + (unsigned)pass;
+    for (i = 0; i < input->book_length; i++) cut_state = cut_state * 0x100000001b3u + input->book[i];
+    for (i = 0; i < input->calls_length; i++) cut_state = cut_state * 0x100000001b3u + input->calls[i];
+}
+
+/* Paints the region; the state is at its end on side 0 and at its start on side 1. */
+static void place_state(int side) {
+    memcpy(state_region.at, state_paint, STATE_ROOM);
+    kept = (nested_gcc_state *)(void *)(side == 0 ? state_region.at + STATE_ROOM - sizeof *kept : state_region.at);
+}
+
+/* Every byte beside the state is as it was painted. */
+static void guards_must_be_kept(const char *name) {
+    size_t from = (size_t)((uint8_t *)kept - state_region.at), to = from + sizeof *kept;
+    if (memcmp(state_region.at, state_paint, from) != 0 ||
+        memcmp(state_region.at + to, state_paint + to, STATE_ROOM - to) != 0)
+        fail("%s wrote beside the state", name);
+}
+
+/* With SHAM, what a wrong library leaves after an open. */
+static void sham_open(uint32_t answer) {
+    if (SHAM == 9 && answer > 256) kept->trail[100] ^= 1; /* refused, yet writes */
+}
+
+/* And after a step of so many calls. */
+static void sham_step(uint32_t answer, size_t calls) {
+    if (answer > 1) return;
+    if (SHAM == 10) kept->record[2] = calls;                              /* counts the calls of the last step alone */
+    if (SHAM == 11 && kept->record[0] < 256) kept->masks[kept->record[0]] ^= 1; /* writes a mask too many */
+    if (SHAM == 12 && calls > 2) kept->record[5] = 0;                     /* forgets the marks */
+}
+
+static uint32_t open_kept(const struct input *input, int pass) {
+    struct lent book = lend(book_region, input->book_length, pass, 17);
+    uint32_t answer;
+    memcpy(book.at, input->book, book.length);
+    answer = nested_gcc_open(book.at, book.length, kept);
+    sham_open(answer);
+    count_answer(opens, answer);
+    if (memcmp(book.at, input->book, book.length) != 0) fail("open wrote to the book");
+    must_be_kept(&book, book.length, "beside the book");
+    guards_must_be_kept("open");
+    lend(book_region, input->book_length, pass, 99); /* the book is not needed any more */
+    return answer;
+}
+
+/* One slice of the state too short: 265, if the book is good. */
+static void open_too_short(const struct input *input, uint32_t check) {
+    size_t lengths[5] = { NESTED_GCC_SLOTS_MOST, NESTED_GCC_CELLS, NESTED_GCC_TRAIL_BYTES, NESTED_GCC_MARKS_MOST,
+                          NESTED_GCC_RECORD_NUMBERS };
+    unsigned slice = cut_below(5);
+    uint32_t answer;
+    lengths[slice] = cut_below((unsigned)lengths[slice]);
+    answer = nested_gcc_open_in(input->book, input->book_length, kept->masks, lengths[0], kept->cells, lengths[1],
+                                kept->trail, lengths[2], kept->heights, lengths[3], kept->record, lengths[4]);
+    count_answer(opens, answer);
+    if (answer != (check == 0 ? 265 : check)) fail("open with a slice too short answers %u", (unsigned)answer);
+    if (memcmp(state_region.at, state_paint, STATE_ROOM) != 0) fail("open with a slice too short wrote");
+}
+
+/* Steps the calls, with room for so many words; the answer. */
+static uint32_t step_kept(const uint8_t *list, size_t length, size_t words, uint32_t *into, int pass) {
+    struct lent calls = lend(calls_region, length, pass, 71), answers = lend(first_region, 4 * words, pass, 40);
+    uint32_t answer;
+    memcpy(calls.at, list, length);
+    answer = nested_gcc_step(kept, calls.at, length, (uint32_t *)(void *)answers.at, words);
+    sham_step(answer, length / 4);
+    count_answer(steps, answer);
+    must_be_kept(&calls, length, "beside the calls");
+    must_be_kept(&answers, answer < 2 ? 2 * length : 0, "answers of a step");
+    if (memcmp(calls.at, list, length) != 0) fail("step wrote to the calls");
+    guards_must_be_kept("step");
+    if (answer < 2) memcpy(into, answers.at, 2 * length);
+    return answer;
+}
+
+/* A list that is refused, by 10 or by 9: the state stays. */
+static void refused_step(const struct input *input, int pass) {
+    static nested_gcc_state before;
+    size_t length = input->calls_length, words = 2 * (length / 4);
+    uint32_t answer, expected = 266;
+    before = *kept;
+    if (length % 4 == 0 && length <= NESTED_GCC_CALLS_BYTES) {
+        if (length == 0) return;
+        if (cut_below(2) == 0) length -= 1 + cut_below(3);
+        else words = cut_below((unsigned)words), expected = 265;
+    }
+    answer = step_kept(input->calls, length, words, NULL, pass);
+    if (answer != expected) fail("a step of %zu bytes with %zu words answers %u", length, words, (unsigned)answer);
+    if (memcmp(kept, &before, sizeof before) != 0) fail("a refused step wrote to the state");
+}
+
+/* The state in another place goes on. */
+static void move_state(int side) {
+    static nested_gcc_state copy;
+    copy = *kept;
+    place_state(side);
+    *kept = copy;
+    moves++;
+}
+
+/* What the state says of itself follows from the calls and their words. */
+static void judge_state(const struct input *input, const uint32_t *words, size_t calls, int opened_dead) {
+    size_t n = book_slots(input), i, marks = 0, dead_call = 0;
+    uint32_t standing = opened_dead ? NESTED_GCC_STANDING_OPENED_DEAD : NESTED_GCC_STANDING_LIVE;
+    for (i = 0; i < calls; i++) {
+        uint8_t kind = input->calls[4 * i];
+        if (words[2 * i] == NESTED_GCC_CALL_DEAD) standing = NESTED_GCC_STANDING_DEAD, dead_call = i;
+        if (words[2 * i] != NESTED_GCC_CALL_DONE) continue;
+        if (kind == NESTED_GCC_MARK) marks++;
+        if (kind == NESTED_GCC_BACK) marks--, standing = NESTED_GCC_STANDING_LIVE, dead_call = 0;
+    }
+    if (nested_gcc_slots(kept) != n || nested_gcc_types(kept) != book_types(input)) fail("the state has another n or k");
+    if (nested_gcc_calls_made(kept) != calls) fail("the state has another number of calls than %zu", calls);
+    if (nested_gcc_open_marks(kept) != marks) fail("the state has another number of marks than %zu", marks);
+    if (nested_gcc_standing(kept) != standing || nested_gcc_dead_call(kept) != dead_call)
+        fail("the state does not stand as the words say after %zu calls", calls);
+    for (i = 0; i < n; i++) {
+        if (opened_dead ? kept->masks[i] != 0 : kept->masks[i] == 0 || (kept->masks[i] & ~book_mask(input, i)) != 0)
+            fail("mask %u of slot %zu of the state", (unsigned)kept->masks[i], i);
+    }
+}
+
+/* The masks past the n-th are as they were when the state was opened. */
+static void later_masks_must_be_kept(const uint32_t *painted_masks, size_t n) {
+    if (memcmp(kept->masks + n, painted_masks + n, 4 * (NESTED_GCC_SLOTS_MOST - n)) != 0)
+        fail("a mask past the last slot was written");
+}
+
+/* Makes the calls in pieces: steps, and calls one by one. */
+static void run_kept(const struct input *input, int pass, uint32_t *words) {
+    uint32_t check = outcomes[CHECK].answer, answer, painted_masks[NESTED_GCC_SLOTS_MOST];
+    size_t calls = input->calls_length / 4, at = 0;
+    int side = pass;
+    seed_cuts(input, pass);
+    state_paint = state_paints[pass];
+    place_state(side);
+    memcpy(painted_masks, kept->masks, sizeof painted_masks);
+    if (cut_below(4) == 0) open_too_short(input, check);
+    answer = open_kept(input, pass);
+    if (check != 0) {
+        if (answer != check) fail("open answers %u where check answers %u", (unsigned)answer, (unsigned)check);
+        if (memcmp(state_region.at, state_paint, STATE_ROOM) != 0) fail("a refused open wrote to the state");
+        return;
+    }
+    if (answer > 1) fail("open answers %u for a good book", (unsigned)answer);
+    if (outcomes[SETTLE].answer < 2 &&
+        (answer != outcomes[SETTLE].answer || memcmp(kept->masks, outcomes[SETTLE].first, 4 * book_slots(input)) != 0))
+        fail("open and settle do not agree");
+    for (;;) {
+        size_t length = cut_below(cut_below(3) == 0 ? 5000 : 12), i;
+        judge_state(input, words, at, answer == 1);
+        later_masks_must_be_kept(painted_masks, book_slots(input));
+        if (at == calls) break;
+        if (cut_below(16) == 0) refused_step(input, pass);
+        if (cut_below(16) == 0) move_state(side = !side);
+        if (length > calls - at) length = calls - at;
+        if (length > NESTED_GCC_CALLS_BYTES / 4) length = NESTED_GCC_CALLS_BYTES / 4;
+        if (cut_below(3) == 0) {
+            for (i = 0; i < length; i++) {
+                const uint8_t *call = input->calls + 4 * (at + i);
+                nested_gcc_call(kept, call[0], call[1], half(call, 1), words + 2 * (at + i));
+                single_calls++;
+            }
+            guards_must_be_kept("call");
+        } else {
+            size_t room = 2 * length + cut_below(9);
+            uint32_t stands = step_kept(input->calls + 4 * at, 4 * length, room, words + 2 * at, pass);
+            if (stands != (nested_gcc_standing(kept) != NESTED_GCC_STANDING_LIVE))
+                fail("step answers %u", (unsigned)stands);
+        }
+        at += length;
+    }
+    if (outcomes[SESSION].answer < 2) {
+        if (answer != outcomes[SESSION].answer || memcmp(words, outcomes[SESSION].first, 8 * calls) != 0)
+            fail("the pieces have other words than the whole list");
+        if (memcmp(kept->masks, outcomes[SESSION].second, 4 * book_slots(input)) != 0)
+            fail("the pieces have other masks than the whole list");
+    }
+}
+
+static void judge_kept(const struct input *input) {
+    run_kept(input, 0, kept_words[0]);
+    run_kept(input, 1, kept_words[1]);
+    if (outcomes[CHECK].answer == 0 && memcmp(kept_words[0], kept_words[1], 8 * (input->calls_length / 4)) != 0)
+        fail("other words in other pieces");
+}
+
 static void judge(const struct input *input) {
     int entry;
     for (entry = CHECK; entry < ENTRIES; entry++) run_twice((enum entry)entry, input);
     judge_answers(input);
     judge_outputs(input);
+    judge_kept(input);
 }
 
 static void make_regions(void) {
+    size_t i;
     book_region = new_region(BOOK_ROOM);
     calls_region = new_region(CALLS_ROOM);
     first_region = new_region(ANSWERS_ROOM);
     second_region = new_region(TABLE_ROOM);
+    state_region = new_region(STATE_ROOM);
+    for (i = 0; i < STATE_ROOM; i++) {
+        state_paints[0][i] = (uint8_t)(11 + 167 * i);
+        state_paints[1][i] = (uint8_t)(254 - 59 * i);
+    }
 }
 
 /* ---- books and calls ---- */
@@ -571,6 +806,8 @@ static void print_counts(void) {
     size_t i;
     print_head("answers of", answers, ANSWERS);
     for (i = 0; i < ENTRIES; i++) print_line(entry_names[i], by_entry[i], ANSWERS);
+    print_line("open", opens, ANSWERS);
+    print_line("step", steps, ANSWERS);
     print_head("session's answers by kind of book", answers, ANSWERS);
     for (i = 0; i < BOOK_KINDS; i++) print_line(book_kinds[i], by_book[i], ANSWERS);
     print_head("session by kind of call list", verdicts, 3);
@@ -579,6 +816,8 @@ static void print_counts(void) {
     for (i = 0; i < ROOM_KINDS; i++) print_line(room_kinds[i], by_room[i], 3);
     print_head("first words of calls", words, 10);
     print_line("count", first_words, 10);
+    printf("\nBeside their steps the kept sessions made %lu single calls, and were moved to another place %lu times.\n",
+           single_calls, moves);
 }
 
 int main(int argc, char **argv) {

@@ -1,11 +1,12 @@
-//! One version everywhere: the archive, the header's text and numbers, the Rust crate, and the newest heading of
-//! CHANGELOG.md.
+//! One version everywhere: the archive, the header's text and numbers, the Rust crate, the newest heading of CHANGELOG.md,
+//! and README.
 
 mod defined;
 
 use nested_gcc::{version, Version};
 
 const CHANGELOG: &str = include_str!("../../../CHANGELOG.md");
+const README: &str = include_str!("../../../README.md");
 
 extern "C" {
     fn nested_gcc_version() -> u32;
@@ -28,6 +29,7 @@ fn the_versions_agree() {
     // examples/version.c compares NESTED_GCC_VERSION_NUMBER with nested_gcc_version().
     let heading = CHANGELOG.lines().find_map(|line| line.strip_prefix("## ")).expect("a heading");
     assert_eq!(heading.split_whitespace().next(), Some(crates), "the newest heading of CHANGELOG.md");
+    assert!(README.contains(&format!("\n| Version | {crates} ")), "the version in README");
 }
 
 #[test]
