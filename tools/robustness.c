@@ -506,6 +506,7 @@ static void later_masks_must_be_kept(const uint32_t *painted_masks, size_t n) {
 
 /* Makes the calls in pieces: steps, and calls one by one. */
 static void run_kept(const struct input *input, int pass, uint32_t *words) {
+    static size_t record[NESTED_GCC_RECORD_NUMBERS]; /* after the opening of pass 0 */
     uint32_t check = outcomes[CHECK].answer, answer, painted_masks[NESTED_GCC_SLOTS_MOST];
     size_t calls = input->calls_length / 4, at = 0;
     int side = pass;
@@ -521,6 +522,8 @@ static void run_kept(const struct input *input, int pass, uint32_t *words) {
         return;
     }
     if (answer > 1) fail("open answers %u for a good book", (unsigned)answer);
+    if (pass == 0) memcpy(record, kept->record, sizeof record);
+    if (memcmp(record, kept->record, sizeof record) != 0) fail("open looked at what the state held");
     if (outcomes[SETTLE].answer < 2 &&
         (answer != outcomes[SETTLE].answer || memcmp(kept->masks, outcomes[SETTLE].first, 4 * book_slots(input)) != 0))
         fail("open and settle do not agree");

@@ -124,7 +124,8 @@ fn m8_call_by_call() {
     assert_eq!(memory.masks.slice()[..3], [1, 2, 3]);
 }
 
-/// An opening writes the first n masks and the record, of which the last number is its own; the masks past the n-th stay.
+/// An opening writes the first n masks and the record, of which the last number is its own, whatever the memory held; the
+/// masks past the n-th stay.
 #[test]
 fn what_an_opening_writes() {
     for (book, answer, masks, numbers) in [
@@ -135,9 +136,11 @@ fn what_an_opening_writes() {
         (Book::new(1, 1), 0, vec![1], [1, 1, 0, 0, 0, 0]),
         (Book::new(256, 32), 0, vec![u32::MAX; 256], [256, 32, 0, 0, 0, 0]),
     ] {
+        let last_number = opened(&book, answer).record.slice()[6];
         for seed in 0..8 {
             let mut memory = Memory::new(seed);
             assert_eq!(memory.open(&book.to_bytes()), answer, "{book:?}");
+            assert_eq!(memory.record.slice()[6], last_number, "{book:?}");
             assert_eq!(memory.masks.slice()[..masks.len()], masks, "{book:?}");
             assert_eq!(memory.numbers(), numbers, "{book:?}");
             memory.assert_guards(masks.len());
@@ -404,12 +407,37 @@ fn opened_again() {
     // An opening, live and then dead.
     assert_eq!(memory.open(&m8().to_bytes()), 0);
     assert_eq!((memory.numbers(), &memory.masks.slice()[..4]), ([3, 2, 0, 0, 0, 0], &[3, 3, 3, 7][..]));
+    assert_eq!(memory.record.slice(), opened(&m8(), 0).record.slice());
     assert_eq!(memory.call(4, 0, 0), [270, 0]);
     assert_step(&mut memory, &M8, 1);
     assert_eq!(memory.numbers(), [3, 2, 10, 1, 8, 0]);
     assert_eq!(memory.open(&m6().to_bytes()), 1);
     assert_eq!((memory.numbers(), &memory.masks.slice()[..4]), ([2, 2, 0, 2, 0, 0], &[0, 0, 3, 7][..]));
     memory.assert_guards(4);
+}
+
+/// As many strikes as there can be, a mark before each slot's, and all of them taken back; then the same in a second
+/// opening.
+#[test]
+fn every_type_struck() {
+    let book = Book::new(256, 32).to_bytes();
+    let mut memory = Memory::new(5);
+    for _ in 0..3 {
+        assert_eq!(memory.open(&book), 0);
+        for slot in 0..256 {
+            assert_eq!(memory.call(3, 0, 0), [3, 0]);
+            assert_eq!(memory.call(1, slot % 32, slot), [0, 31]);
+        }
+        memory.assert_guards(256);
+        let fixed: Vec<u32> = (0..256).map(|slot| 1 << (slot % 32)).collect();
+        assert_eq!(memory.masks.slice(), fixed);
+        for _ in 0..128 {
+            assert_eq!(memory.call(4, 0, 0), [3, 0]);
+        }
+        assert_eq!(memory.masks.slice()[..128], fixed[..128]);
+        assert_eq!(memory.masks.slice()[128..], [u32::MAX; 128]);
+        memory.assert_guards(256);
+    }
 }
 
 /// Two states, called in turn: each has its own.
