@@ -1,6 +1,6 @@
-/* The run M8 (session.c) on a kept session: opened once, then stepped by a list, by a list without calls, by single calls.
- * Prints how it opened, each call's number and two words, how it stands after each piece, and the last masks; then what a
- * copy, made before the calls that led it to its end, comes to. */
+/* The run M8 (session.c) on a kept session: opened once, then stepped by a list, by a list without calls, by one that is
+ * refused, and by single calls. Prints how it opened, each call's number and two words, how it stands after each piece,
+ * and the last masks; then the same of a copy that was made before the single calls and goes another way. */
 #include "nested_gcc.h"
 #include <stdio.h>
 
@@ -54,6 +54,7 @@ static void call(nested_gcc_state *on, uint32_t kind, uint32_t type, uint32_t sl
 }
 
 int main(void) {
+    printf("a state of %lu bytes\n", (unsigned long)sizeof state);
     printf("open %u\n", (unsigned)nested_gcc_open(book, sizeof book, &state));
     printf("slots %u, types %u\n", (unsigned)nested_gcc_slots(&state), (unsigned)nested_gcc_types(&state));
     print_standing(&state);

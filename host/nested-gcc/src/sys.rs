@@ -2,17 +2,18 @@
 //! memory.
 
 use std::alloc::{alloc_zeroed, handle_alloc_error, Layout};
+use std::mem::size_of;
 
 use crate::{MARKS_MOST, SLOTS_MOST};
 
 /// How many numbers the record of a kept session has.
-pub const RECORD_NUMBERS: usize = 7;
+const RECORD_NUMBERS: usize = 7;
 
 /// How many cells the memory of a kept session has.
-pub const CELLS: usize = 16528;
+const CELLS: usize = 16528;
 
 /// How many bytes the trail of a kept session has.
-pub const TRAIL_BYTES: usize = 25088;
+const TRAIL_BYTES: usize = 25088;
 
 /// The memory of a kept session, `nested_gcc_state` of the header. It is only made by [`State::open`], so that it is
 /// always what an open, a step or a call left, or a copy of that.
@@ -26,6 +27,8 @@ pub struct State {
     heights: [u16; MARKS_MOST],
     trail: [u8; TRAIL_BYTES],
 }
+
+const _: () = assert!(size_of::<State>() == 59_736);
 
 /// Two words of an answer to a call, `nested_gcc_words` of the header.
 #[repr(C)]
