@@ -251,6 +251,44 @@ fn random_copies() {
     }
 }
 
+/// Books with a few bits flipped, opened where another session was: a refusal leaves it all as it was, and it goes on; a
+/// good book opens as the plain session does.
+#[test]
+fn damaged_books() {
+    let mut random = Random::new(0x3c6e_f372_fe94_f82b);
+    let (mut refused, mut good) = (BTreeMap::new(), 0);
+    for turn in 0..2 * SESSIONS {
+        let book = random_book(&mut random);
+        let mut memory = Memory::new(turn);
+        assert!(memory.open(&bytes(&book)) < 2);
+        let before = memory.clone();
+        let mut damaged = bytes(&book);
+        for _ in 0..random.between(1, 4) {
+            let at = if random.below(2) == 0 { random.below(12) } else { random.below(damaged.len()) };
+            damaged[at] ^= 1 << random.below(8);
+        }
+        let answer = memory.open(&damaged);
+        match Book::parse(&damaged) {
+            Err(number) => {
+                assert_eq!(answer, 256 + number, "{damaged:?}");
+                assert!(memory == before, "{damaged:?}");
+                assert_eq!(memory.call(5, 0, 0), [2, before.masks.slice()[0]]);
+                assert_eq!(Live::open(&damaged).map_err(|refusal| refusal.number()).err(), Some(number));
+                *refused.entry(number).or_insert(0) += 1;
+            }
+            Ok(other) => {
+                let plain = Kept::open(&other);
+                assert_eq!(answer, u32::from(plain.machine.dead), "{other:?}");
+                assert_eq!(memory.masks.slice()[..other.n], plain.machine.masks, "{other:?}");
+                memory.assert_guards(usize::max(book.n, other.n));
+                good += 1;
+            }
+        }
+    }
+    println!("{good} good, refused {refused:?}");
+    assert!(good >= LEAST && (2..=8).all(|number| refused[&number] >= LEAST));
+}
+
 /// 100,000 calls by steps of up to 4096, against the plain session; the first 4096 against `session` too.
 #[test]
 fn a_long_session() {
