@@ -75,8 +75,9 @@ add-write-numbers c =
 
 write-numbers-requires : tie.Need-write-numbers-requires
 write-numbers-requires c κs =
-    let ran = c .before .before .before .before .before .before .before .before .before .before .before .before .before .before .before .before .before .before in
-    ran .before .before .before .before .before .before .before .before .before .before .before .before .before .before .before .before .pre .kept .sized .numbers
+    let ran = c .before .before .before .before .before .before .before .before .before .before .before in
+    let tested = ran .before .before .before .before .before .before .before .before .before .before .before .before in
+    tested .before .before .before .before .before .before .before .before .before .before .before .pre .kept .sized .numbers
 
 stands-requires : tie.Need-stands-requires
 stands-requires c κs = search needs
