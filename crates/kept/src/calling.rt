@@ -12,7 +12,7 @@ use stepping::step;
 ghost use mathlib.Core.Path.{_≡_};
 ghost use Prim.Native.Nat.{ℕ};
 ghost use Rattle.session_model.specs.Calls.{callOf};
-ghost use Rattle.kept_model.specs.Entries.{Calls};
+ghost use Rattle.kept_model.specs.Entries.{KeptCalls};
 ghost use Rattle.kept_model.specs.Kept.{Kept};
 ghost use Rattle.kept_model.specs.Memory.{memory};
 
@@ -28,7 +28,7 @@ pub fn call(
     numbers: &mut [usize],
 ) -> Words
     requires { ⌜ Kept (memory (now masks) (now cells) (now trail) (now heights) (now numbers)) ⌝ }
-    ensures { λ r. ⌜ Calls (callOf kind value slot)
+    ensures { λ r. ⌜ KeptCalls (callOf kind value slot)
         (memory (now (masks .entry)) (now (cells .entry)) (now (trail .entry)) (now (heights .entry)) (now (numbers .entry))) (r .first) (r .second)
         (memory (now (masks .exit)) (now (cells .exit)) (now (trail .exit)) (now (heights .exit)) (now (numbers .exit))) ⌝ }
 {

@@ -5,7 +5,7 @@ use acts::Standing;
 ghost use mathlib.Core.Path.{_≡_};
 ghost use Prim.Native.Nat.{_<_};
 ghost use lib.ListN.{length, getD};
-ghost use Rattle.kept_model.specs.Memory.{standingNumber, deadCall, standingIn, numbersOf, sessionIn};
+ghost use Rattle.kept_model.specs.Memory.{standingNumber, deadCall, standingByNumber, numbersOf, sessionIn};
 
 // How many numbers there are, and where each stands.
 pub const NUMBERS: usize = 7;
@@ -38,7 +38,7 @@ pub fn session_in(numbers: &[usize]) -> Session
 {
     let number = number_at(numbers, STANDING);
     let call = number_at(numbers, DEAD_CALL);
-    let standing = standing_in(number, call);
+    let standing = standing_by_number(number, call);
     let top = number_at(numbers, TOP);
     let marks = number_at(numbers, MARKS);
     Session {
@@ -49,8 +49,8 @@ pub fn session_in(numbers: &[usize]) -> Session
 }
 
 // The standing of a number: 0 live, 1 dead since the call, else opened dead.
-fn standing_in(number: usize, call: usize) -> Standing
-    ensures { λ r. ⌜ r ≡ standingIn number call ⌝ }
+fn standing_by_number(number: usize, call: usize) -> Standing
+    ensures { λ r. ⌜ r ≡ standingByNumber number call ⌝ }
 {
     if number == 0 {
         return Standing::Live;

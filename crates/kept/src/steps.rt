@@ -13,7 +13,7 @@ use running::run;
 ghost use mathlib.Core.Path.{_≡_};
 ghost use Rattle.acts.specs.Given.{isDead};
 ghost use Rattle.answer.specs.Answer.{wordOf};
-ghost use Rattle.kept_model.specs.Entries.{stepFault, deadWord, Steps};
+ghost use Rattle.kept_model.specs.Entries.{stepFault, deadWord, KeptSteps};
 ghost use Rattle.kept_model.specs.Kept.{Kept};
 ghost use Rattle.kept_model.specs.Memory.{memory};
 
@@ -33,7 +33,7 @@ pub fn step(
     numbers: &mut [usize],
 ) -> Answer
     requires { ⌜ Kept (memory (now masks) (now cells) (now trail) (now heights) (now numbers)) ⌝ }
-    ensures { λ r. ⌜ Steps (now (calls .entry)) (now (answers .entry))
+    ensures { λ r. ⌜ KeptSteps (now (calls .entry)) (now (answers .entry))
         (memory (now (masks .entry)) (now (cells .entry)) (now (trail .entry)) (now (heights .entry)) (now (numbers .entry))) (wordOf r)
         (now (answers .exit)) (memory (now (masks .exit)) (now (cells .exit)) (now (trail .exit)) (now (heights .exit)) (now (numbers .exit))) ⌝ }
 {

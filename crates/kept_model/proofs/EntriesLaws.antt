@@ -41,7 +41,7 @@ use Rattle.stepping.specs.Steps as Stepping
 use Rattle.running_model.specs.BookRan.{bookTable, openedRules, openedState, Openable, Opens}
 use Rattle.running_model.specs.Runs.{Runs}
 use Rattle.kept_model.specs.Entries.{mostCalls, openFault, openOf, OpenEntry, OpenedIn, OpenReady, stepFault, taken}
-use Rattle.kept_model.specs.Entries.{deadWord, standingWord, stepGood, stepOf, Steps, callFault, Calls}
+use Rattle.kept_model.specs.Entries.{deadWord, standingWord, stepGood, stepOf, KeptSteps, callFault, KeptCalls}
 use Rattle.kept_model.specs.Kept.{KeptAt}
 use Rattle.kept_model.specs.Memory.{Memory, memory, Sized, sized, numbersOf, sessionIn}
 use Rattle.kept_model.proofs.KeptLaws.{later-replies, later-reply, kept-by, kept-made, kept-masks}
@@ -225,13 +225,13 @@ dead-word OpenedDead = refl
 dead-word Live = refl
 dead-word (Dead call) = refl
 
--- ---- Steps
+-- ---- KeptSteps
 taken-none : (x : ℕ) (past calls : List Call) → (x ≡ 0 → ⊥) → past ++ taken x calls ≡ past
 taken-none zero past calls refusing = absurd (refusing refl)
 taken-none (suc x) past calls refusing = append-nil past
 
 pub step-refused : (calls A masks cells trail heights numbers : List ℕ) (made x : ℕ) → made ≡ getD numbers 2 0 → x ≡ stepFault made (length calls) (length A)
-    → (x ≡ 0 → ⊥) → Steps calls A (memory masks cells trail heights numbers) (256 + x) A (memory masks cells trail heights numbers)
+    → (x ≡ 0 → ⊥) → KeptSteps calls A (memory masks cells trail heights numbers) (256 + x) A (memory masks cells trail heights numbers)
 step-refused calls A masks cells trail heights numbers made x made-is is refusing =
     record {
       does = λ b past kept.
@@ -253,7 +253,7 @@ module _ (calls masks cells trail heights numbers : List ℕ) {n k made : ℕ} {
       → Runs n k made (callsOf calls) session (take n masks) cells trail heights A session′ front cells′ trail′ heights′ A′
       → length cells′ ≡ length cells → length trail′ ≡ length trail → length heights′ ≡ length heights
       → numbers′ ≡ numbersOf n k (made + length calls / 4) session′ → answer ≡ deadWord (isDead (session′ .standing))
-      → Steps calls A (memory masks cells trail heights numbers) answer A′ (memory (overlay front masks) cells′ trail′ heights′ numbers′)
+      → KeptSteps calls A (memory masks cells trail heights numbers) answer A′ (memory (overlay front masks) cells′ trail′ heights′ numbers′)
   step-done {A} {front = front} {numbers′ = numbers′} {session′} answer unrefused runs-are cells-kept trail-kept heights-kept numbers-are answer-is =
       record {
         does = λ b past kept.
@@ -281,7 +281,7 @@ module _ (calls masks cells trail heights numbers : List ℕ) {n k made : ℕ} {
             };
       }
 
--- ---- Calls
+-- ---- KeptCalls
 pub callFault-many : (made : ℕ) → mostCalls ≤ made → callFault made ≡ 10
 unfolding callFault
 callFault-many made many = rw (le-leb mostCalls made many) refl
@@ -291,7 +291,7 @@ unfolding callFault
 callFault-none made few = rw (lt-leb mostCalls made few) refl
 
 pub call-refused : (c : Call) (masks cells trail heights numbers : List ℕ) (made : ℕ) → made ≡ getD numbers 2 0 → mostCalls ≤ made
-    → Calls c (memory masks cells trail heights numbers) 266 0 (memory masks cells trail heights numbers)
+    → KeptCalls c (memory masks cells trail heights numbers) 266 0 (memory masks cells trail heights numbers)
 call-refused c masks cells trail heights numbers made made-is many =
     record {
       does = λ b past kept.
@@ -311,7 +311,7 @@ module _ (c : Call) (masks cells trail heights numbers : List ℕ) {n k made : �
       → Stepping.Steps n k made c session (take n masks) cells trail heights front cells′ trail′ heights′ r
       → length cells′ ≡ length cells → length trail′ ≡ length trail → length heights′ ≡ length heights
       → numbers′ ≡ numbersOf n k (made + 1) (r .session)
-      → Calls c (memory masks cells trail heights numbers) (r .first) (r .second) (memory (overlay front masks) cells′ trail′ heights′ numbers′)
+      → KeptCalls c (memory masks cells trail heights numbers) (r .first) (r .second) (memory (overlay front masks) cells′ trail′ heights′ numbers′)
   unfolding runs standFrom
   call-done {front} {cells′} {trail′} {heights′} {numbers′} {r} few steps cells-kept trail-kept heights-kept numbers-are =
       record {

@@ -1,5 +1,5 @@
 -- The laws of `specs/Memory.antt`, in its order: the sizes (`sizes-masks` .. `sizes-numbers`, `sized-is`), a standing in numbers and back
--- (`standingIn-number`), a
+-- (`standingByNumber-number`), a
 -- session in numbers and back (`sessionIn-numbers`). No contract cites this file. Assumes nothing.
 use mathlib.Core.Path.{_≡_, refl, sym, ap}
 use mathlib.Core.Bool.{Bool, true, false, true≢false, _&&_}
@@ -12,7 +12,7 @@ use lib.ListN.{length, set}
 use Rattle.acts.specs.declared.Session.{Session}
 use Rattle.acts.specs.declared.Standing.{Standing}
 use Rattle.acts.specs.declared.Standing.the-variants.{OpenedDead, Live, Dead}
-use Rattle.kept_model.specs.Memory.{Memory, Sized, sizes, sized, standingNumber, deadCall, standingIn, numbersOf, sessionIn}
+use Rattle.kept_model.specs.Memory.{Memory, Sized, sizes, sized, standingNumber, deadCall, standingByNumber, numbersOf, sessionIn}
 
 -- ---- sizes, sized
 and-none-second : (a b : Bool) → b ≡ false → a && b ≡ false
@@ -63,28 +63,28 @@ sized-is at is =
       numbers = eqb-true _ 7 (and-second (eqb (length (at .heights)) 256) _ heights);
     }
 
--- ---- standingIn, sessionIn
-pub standingIn-live : (number call : ℕ) → number ≡ 0 → standingIn number call ≡ Live
-unfolding standingIn
-standingIn-live number call is = rw is refl
+-- ---- standingByNumber, sessionIn
+pub standingByNumber-live : (number call : ℕ) → number ≡ 0 → standingByNumber number call ≡ Live
+unfolding standingByNumber
+standingByNumber-live number call is = rw is refl
 
-pub standingIn-dead : (number call : ℕ) → number ≡ 1 → standingIn number call ≡ Dead call
-unfolding standingIn
-standingIn-dead number call is = rw is refl
+pub standingByNumber-dead : (number call : ℕ) → number ≡ 1 → standingByNumber number call ≡ Dead call
+unfolding standingByNumber
+standingByNumber-dead number call is = rw is refl
 
-pub standingIn-shut : (number call : ℕ) → (number ≡ 0 → ⊥) → (number ≡ 1 → ⊥) → standingIn number call ≡ OpenedDead
-unfolding standingIn
-standingIn-shut number call not-0 not-1 = rw (ne-eqb number 0 not-0, ne-eqb number 1 not-1) refl
+pub standingByNumber-shut : (number call : ℕ) → (number ≡ 0 → ⊥) → (number ≡ 1 → ⊥) → standingByNumber number call ≡ OpenedDead
+unfolding standingByNumber
+standingByNumber-shut number call not-0 not-1 = rw (ne-eqb number 0 not-0, ne-eqb number 1 not-1) refl
 
-pub standingIn-number : (standing : Standing) → standingIn (standingNumber standing) (deadCall standing) ≡ standing
-unfolding standingIn
-standingIn-number Live = refl
-standingIn-number (Dead call) = refl
-standingIn-number OpenedDead = refl
+pub standingByNumber-number : (standing : Standing) → standingByNumber (standingNumber standing) (deadCall standing) ≡ standing
+unfolding standingByNumber
+standingByNumber-number Live = refl
+standingByNumber-number (Dead call) = refl
+standingByNumber-number OpenedDead = refl
 
 pub sessionIn-numbers : (n k made : ℕ) (session : Session) → sessionIn (numbersOf n k made session) ≡ session
 sessionIn-numbers n k made session =
-    ap (λ (standing : Standing). record { standing = standing; top = session .top; marks = session .marks }) (standingIn-number (session .standing))
+    ap (λ (standing : Standing). record { standing = standing; top = session .top; marks = session .marks }) (standingByNumber-number (session .standing))
 
 -- seven stores write the numbers
 pub numbers-stored : (ns : List ℕ) (n k made number call marks top : ℕ) → length ns ≡ 7

@@ -10,10 +10,10 @@
 --   standingWord          0 live, 1 dead
 --   stepGood              the outcome of an accepted list: how the session stands after it, the words of its calls, and the masks
 --   stepOf                the outcome: refused by stepFault, else stepGood
---   StepEntry             answer, words and memory are those of the outcome; Steps: so it is for whatever book and calls the memory stood for
+--   StepEntry             answer, words and memory are those of the outcome; KeptSteps: so it is for whatever book and calls the memory stood for
 --   callFault made        10 after mostCalls calls, else 0
 --   callWords             the two words of a call, by what refuses it
---   CallEntry             words and memory are those of the call; CallStep: so it is for whatever book and calls the memory stood for
+--   CallEntry             words and memory are those of the call; KeptCalls: so it is for whatever book and calls the memory stood for
 -- Assumes nothing.
 use mathlib.Core.Path.{_≡_}
 use mathlib.Core.Bool.{Bool, true, false, not, _||_}
@@ -98,7 +98,7 @@ pub record StepEntry (b : List ℕ) (past : List Call) (calls A : List ℕ) (bef
   pub kept : KeptAt b (past ++ taken (stepFault (length past) (length calls) (length A)) (callsOf calls)) after
   pub untouched : (stepFault (length past) (length calls) (length A) ≡ 0 → ⊥) → after ≡ before
 
-pub record Steps (calls A : List ℕ) (before : Memory) (answer : ℕ) (A′ : List ℕ) (after : Memory) : Type 0 where
+pub record KeptSteps (calls A : List ℕ) (before : Memory) (answer : ℕ) (A′ : List ℕ) (after : Memory) : Type 0 where
   pub does : (b : List ℕ) (past : List Call) → KeptAt b past before → StepEntry b past calls A before answer A′ after
 
 -- ---- a call
@@ -115,5 +115,5 @@ pub record CallEntry (b : List ℕ) (past : List Call) (c : Call) (before : Memo
   pub kept : KeptAt b (past ++ taken (callFault (length past)) (c ∷ [])) after
   pub untouched : (callFault (length past) ≡ 0 → ⊥) → after ≡ before
 
-pub record Calls (c : Call) (before : Memory) (first second : ℕ) (after : Memory) : Type 0 where
+pub record KeptCalls (c : Call) (before : Memory) (first second : ℕ) (after : Memory) : Type 0 where
   pub does : (b : List ℕ) (past : List Call) → KeptAt b past before → CallEntry b past c before first second after

@@ -2,7 +2,7 @@
 --   Memory             masks, cells, trail, heights, numbers; memory: from the five
 --   Sized at           each slice has its size; sized: the test, and sizes by the five lengths
 --   standingNumber, deadCall   a standing in numbers: 0 live, 1 dead since a call, 2 opened dead; the number of that call, else 0
---   standingIn         the standing that two such numbers stand for
+--   standingByNumber         the standing that two such numbers stand for
 --   numbersOf n k made session   a session after so many calls in numbers: slots, types, calls made, standing, its call, open marks, the trail's height
 --   sessionIn numbers  the session that they stand for
 -- Assumes nothing.
@@ -51,12 +51,12 @@ deadCall Live = 0
 deadCall (Dead call) = call
 deadCall OpenedDead = 0
 
-unfoldable pub standingIn : ℕ → ℕ → Standing
-standingIn number call = cond (eqb number 0) Live (cond (eqb number 1) (Dead call) OpenedDead)
+unfoldable pub standingByNumber : ℕ → ℕ → Standing
+standingByNumber number call = cond (eqb number 0) Live (cond (eqb number 1) (Dead call) OpenedDead)
 
 abbrev pub numbersOf : ℕ → ℕ → ℕ → Session → List ℕ
 numbersOf n k made session =
     n ∷ k ∷ made ∷ standingNumber (session .standing) ∷ deadCall (session .standing) ∷ session .marks ∷ session .top ∷ []
 
 abbrev pub sessionIn : List ℕ → Session
-sessionIn numbers = record { standing = standingIn (getD numbers 3 0) (getD numbers 4 0); top = getD numbers 6 0; marks = getD numbers 5 0 }
+sessionIn numbers = record { standing = standingByNumber (getD numbers 3 0) (getD numbers 4 0); top = getD numbers 6 0; marks = getD numbers 5 0 }

@@ -22,23 +22,23 @@ use Rattle.session_model.specs.Demand.{At, PlanMeets, Demand3, DeadOpening}
 use Rattle.session_model.specs.State.{wordsOf}
 use Rattle.session_fault.specs.Entry.{mostMarks}
 use Rattle.running_model.specs.EngineDemand.{firstWord, EngineDemand3}
-use Rattle.kept_model.specs.Entries.{mostCalls, OpenEntry, Steps, Calls}
+use Rattle.kept_model.specs.Entries.{mostCalls, OpenEntry, KeptSteps, KeptCalls}
 use Rattle.kept_model.specs.Kept.{KeptAt}
 use Rattle.kept_model.specs.Memory.{Memory}
 
 pub data Search (b : List ℕ) : List Call → List ℕ → Memory → Type 0 where
   opened : (before : Memory) (answer : ℕ) (at : Memory) → OpenEntry b before answer at → answer < 256 → Search b [] [] at
   stepped : (past : List Call) (words : List ℕ) (before : Memory) → Search b past words before
-      → (calls A : List ℕ) (answer : ℕ) (A′ : List ℕ) (at : Memory) → Steps calls A before answer A′ at → answer < 256
+      → (calls A : List ℕ) (answer : ℕ) (A′ : List ℕ) (at : Memory) → KeptSteps calls A before answer A′ at → answer < 256
       → Search b (past ++ callsOf calls) (words ++ take (2 * (length calls / 4)) A′) at
   called : (past : List Call) (words : List ℕ) (before : Memory) → Search b past words before
-      → (c : Call) (first second : ℕ) (at : Memory) → Calls c before first second at → length past < mostCalls
+      → (c : Call) (first second : ℕ) (at : Memory) → KeptCalls c before first second at → length past < mostCalls
       → Search b (past ++ (c ∷ [])) (words ++ (first ∷ second ∷ [])) at
 
 pub data Pieces (b : List ℕ) : List ℕ → List ℕ → Memory → Type 0 where
   begun : (before : Memory) (answer : ℕ) (at : Memory) → OpenEntry b before answer at → answer < 256 → Pieces b [] [] at
   next : (bytes words : List ℕ) (before : Memory) → Pieces b bytes words before
-      → (calls A : List ℕ) (answer : ℕ) (A′ : List ℕ) (at : Memory) → Steps calls A before answer A′ at → answer < 256
+      → (calls A : List ℕ) (answer : ℕ) (A′ : List ℕ) (at : Memory) → KeptSteps calls A before answer A′ at → answer < 256
       → Pieces b (bytes ++ calls) (words ++ take (2 * (length calls / 4)) A′) at
 
 abbrev pub frontOf : List ℕ → Memory → List ℕ

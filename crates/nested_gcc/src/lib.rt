@@ -8,7 +8,7 @@ ghost use mathlib.Core.Path.{_≡_};
 ghost use Rattle.session_model.specs.Calls.{callOf};
 ghost use Rattle.entries_model.specs.Entries.{checkAnswer, CloseEntry, SettleEntry, SessionEntry};
 ghost use Rattle.entries_model.specs.Version.{version};
-ghost use Rattle.kept_model.specs.Entries.{OpenEntry, Steps, Calls};
+ghost use Rattle.kept_model.specs.Entries.{OpenEntry, KeptSteps, KeptCalls};
 ghost use Rattle.kept_model.specs.Kept.{Kept};
 ghost use Rattle.kept_model.specs.Memory.{memory};
 
@@ -85,7 +85,7 @@ pub extern "C" fn nested_gcc_step_in(
     numbers: &mut [usize],
 ) -> u32
     requires { ⌜ Kept (memory (now masks) (now cells) (now trail) (now heights) (now numbers)) ⌝ }
-    ensures { λ r. ⌜ Steps (now (calls .entry)) (now (answers .entry))
+    ensures { λ r. ⌜ KeptSteps (now (calls .entry)) (now (answers .entry))
         (memory (now (masks .entry)) (now (cells .entry)) (now (trail .entry)) (now (heights .entry)) (now (numbers .entry))) r
         (now (answers .exit)) (memory (now (masks .exit)) (now (cells .exit)) (now (trail .exit)) (now (heights .exit)) (now (numbers .exit))) ⌝ }
 {
@@ -105,7 +105,7 @@ pub extern "C" fn nested_gcc_call_in(
     numbers: &mut [usize],
 ) -> Words
     requires { ⌜ Kept (memory (now masks) (now cells) (now trail) (now heights) (now numbers)) ⌝ }
-    ensures { λ r. ⌜ Calls (callOf kind value slot)
+    ensures { λ r. ⌜ KeptCalls (callOf kind value slot)
         (memory (now (masks .entry)) (now (cells .entry)) (now (trail .entry)) (now (heights .entry)) (now (numbers .entry))) (r .first) (r .second)
         (memory (now (masks .exit)) (now (cells .exit)) (now (trail .exit)) (now (heights .exit)) (now (numbers .exit))) ⌝ }
 {

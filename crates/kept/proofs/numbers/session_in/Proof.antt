@@ -10,8 +10,8 @@ number-at-requires c κs = search needs
 number-at-requires-2 : tie.Need-number-at-requires-2
 number-at-requires-2 c κs = search needs
 
-standing-in-requires : tie.Need-standing-in-requires
-standing-in-requires c κs = search needs
+standing-by-number-requires : tie.Need-standing-by-number-requires
+standing-by-number-requires c κs = search needs
 
 number-at-requires-3 : tie.Need-number-at-requires-3
 number-at-requires-3 c κs = search needs
@@ -22,7 +22,7 @@ number-at-requires-4 c κs = search needs
 returns : tie.Need-returns
 returns c =
     let told = c .before .before in
-    rw (told .standing-in .ensures, told .before .number-at2 .ensures, told .before .before .number-at .ensures)
+    rw (told .standing-by-number .ensures, told .before .number-at2 .ensures, told .before .before .number-at .ensures)
     (rw (c .before .number-at3 .ensures, c .number-at4 .ensures) refl)
 
 pub session-in-spec : {M : Type 1} → statement M
@@ -31,7 +31,7 @@ session-in-spec =
     (tie.spec
     number-at-requires
     number-at-requires-2
-    standing-in-requires
+    standing-by-number-requires
     number-at-requires-3
     number-at-requires-4
     returns)
