@@ -1,12 +1,11 @@
 // The right ends of a row of cells: how far a link leads, the last right end before a slot, and what becomes of one whose gap is used up: its segment is
 // spent, or joined to the one before. A cell below 1024 is a right end, from 1024 on it is a link (segments_model's `specs/Links.antt`). Nothing is
-// refused here. The contracts cite `specs/Before.antt` and the definitions of segments_model.
+// refused here. The contracts cite the definitions of segments_model.
 ghost use mathlib.Core.Path.{_≡_};
 ghost use Prim.Native.Nat.{_+_, _-_, _<_, _≤_};
 ghost use lib.ListN.{length, getD, set};
 ghost use Rattle.segments_model.specs.Links.{gaps};
 ghost use Rattle.segments_model.specs.Search.{Latest};
-ghost use Rattle.right_ends.specs.Before.{Before, Leads};
 
 // How far the link c leads; a right end leads nowhere.
 pub fn hop(c: usize) -> usize
@@ -18,31 +17,8 @@ pub fn hop(c: usize) -> usize
     c - 1023
 }
 
-// The last right end after z up to the slot, or z, where t is the first one after the slot. Mostly the link after z leads to t, and there is none.
-pub fn previous_end(cells: &[u16], n: usize, z: usize, slot: usize, t: usize) -> usize
-    requires { ⌜ (z ≤ slot) × (slot < t) × (t ≤ n) × (n < length (now cells)) × (n < 1024) ⌝ }
-    ensures { λ r. ⌜ Before n z slot (now (cells .entry)) r ⌝ }
-{
-    if leads(cells, z + 1, t) {
-        return z;
-    }
-    latest_standing(cells, z, slot)
-}
-
-// Whether the cell at w is a link to t.
-fn leads(cells: &[u16], w: usize, t: usize) -> bool
-    requires { ⌜ (w < length (now cells)) × (w < 65536) ⌝ }
-    ensures { λ r. ⌜ Leads (getD (now (cells .entry)) w 0) w t r ⌝ }
-{
-    let c = wide(cells[w]);
-    if c < 1024 {
-        return false;
-    }
-    w + (c - 1023) == t
-}
-
 // The last right end after z up to the slot, or z.
-fn latest_standing(cells: &[u16], z: usize, slot: usize) -> usize
+pub fn latest_standing(cells: &[u16], z: usize, slot: usize) -> usize
     requires { ⌜ (z ≤ slot) × (slot < length (now cells)) ⌝ }
     ensures { λ r. ⌜ Latest z slot (gaps (now (cells .entry))) r ⌝ }
 {
@@ -71,7 +47,7 @@ pub fn join(cells: &mut [u16], p: usize, t: usize)
     ensures { λ _. ⌜ now (cells .exit) ≡ set (set (now (cells .entry)) t (getD (now (cells .entry)) p 0)) p (1024 + (t - p - 1)) ⌝ }
 {
     cells[t] = cells[p];
-    cells[p] = (1024 + (t - p - 1)) as u16;
+    cells[p] = (1023 + (t - p)) as u16;
 }
 
 // The same number as an index.

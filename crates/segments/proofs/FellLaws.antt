@@ -11,14 +11,15 @@ use native.Mathlib.Decide.{decLt}
 use native.Mathlib.Omega.{arith}
 use lib.ListN.{length, getD, set, length-set}
 use Rattle.segments_model.specs.Fall.{MoreThan, Meets, Quieted}
-use Rattle.segments_model.specs.Links.{gaps, nextOf}
+use Rattle.segments_model.specs.Links.{gaps, Linked, nextOf}
+use Rattle.segments_model.specs.Search.{Latest}
 use Rattle.segments_model.proofs.FallenLaws.{clashed, quiet-none, quiet-less, quiet-join, reached-spend}
 use Rattle.segments_model.proofs.LatestLaws.{latest-end, latest-none}
 use Rattle.segments_model.proofs.LinksLaws.{next-after, gaps-first}
 use Rattle.segments_model.proofs.RaiseLaws.{reversal-none, reversal-less, reversal-join, reversal-spend}
-use Rattle.right_ends.specs.Before.{Before}
 use Rattle.segments.specs.declared.Hit.{Hit}
 use Rattle.segments.specs.declared.Hit.the-variants.{Lowered, Still, Joined, Clash, Reached}
+use Rattle.segments.specs.UsedUp.{UsedUp}
 use Rattle.segments.specs.Fell.{Quiets, Answer, Fell}
 
 -- ---- Fell
@@ -64,12 +65,11 @@ module _ {n slot : ℕ} {l : List ℕ} {t : ℕ} (search : Searched n slot l t) 
           barred = search .free;
         }
 
-    module _ (last : getD l t 0 ≡ 0) {z p : ℕ} (z-is : z ≡ getD l 0 0) (before : Before n z slot l p) (l′ : List ℕ) where
-      pub fell-join : (p ≡ z → ⊥) → l′ ≡ set (set l t (getD l p 0)) p (1024 + (t - p - 1)) → Fell n slot l l′ (Joined p)
-      fell-join found-one stored =
-          let z<p : z < p = omega (arith, found-one, before .from) in
+    module _ (last : getD l t 0 ≡ 0) {z : ℕ} (z-is : z ≡ getD l 0 0) (l′ : List ℕ) where
+      fell-join : {p : ℕ} → z < p → Latest z slot (gaps l) p → l′ ≡ set (set l t (getD l p 0)) p (1024 + (t - p - 1)) → Fell n slot l l′ (Joined p)
+      fell-join {p} z<p latest stored =
           let 0<p : 0 < p = omega arith in
-          let prev = latest-end (before .found z<p) z<p in
+          let prev = latest-end latest z<p in
           record {
             size = ap length stored ∙ simp length-set;
             inside = tt;
@@ -78,7 +78,7 @@ module _ {n slot : ℕ} {l : List ℕ} {t : ℕ} (search : Searched n slot l t) 
             barred = search .free;
           }
 
-      pub fell-spend : p ≡ z → l′ ≡ set (set l t 1024) 0 t → Fell n slot l l′ (Reached t z)
+      fell-spend : (Linked n l → Latest z slot (gaps l) z) → l′ ≡ set (set l t 1024) 0 t → Fell n slot l l′ (Reached t z)
       fell-spend none stored =
           let first : z ≡ getD (gaps l) 0 0 = z-is ∙ sym (gaps-first l) in
           record {
@@ -87,10 +87,17 @@ module _ {n slot : ℕ} {l : List ℕ} {t : ℕ} (search : Searched n slot l t) 
             answer = λ C f held.
                 rw stored
                 (reached-spend slot held (search .free) slot≤n (search .cells-in) (search .found) t≤n last
-                (latest-none (held .cells) (rw first at before .linked (held .linked)) (none ∙ first)) refl);
+                (latest-none (held .cells) (rw first at none (held .linked)) refl) refl);
             reverses = rw (stored, z-is) (reversal-spend n slot l slot≤n (search .free) (search .found) t≤n (search .cells-in) last);
             barred = (search .free, z-is);
           }
+
+      pub fell-used : (r : Hit) → UsedUp n z slot t l l′ r → Fell n slot l l′ r
+      fell-used (Lowered u) none = absurd none
+      fell-used Still none = absurd none
+      fell-used (Joined p) used = fell-join (used .0) (used .1) (used .2)
+      fell-used Clash none = absurd none
+      fell-used (Reached u x) used = rw (used .0, used .1) (fell-spend (used .2) (used .3))
 
 -- ---- Answer
 

@@ -1,1 +1,2 @@
 pub mod FellLaws
+pub mod UsedUpLaws

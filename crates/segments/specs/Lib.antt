@@ -1,1 +1,2 @@
+pub mod UsedUp
 pub mod Fell

@@ -1,15 +1,16 @@
 // The segments of one value and one kind of bound, kept in one cell for each prefix from 0 to n: brought up to date when the slack falls by one
 // after a slot. Cell 0 is the spent corner. A later cell below 1024 is a right end, one less than its gap; from 1024 on it is a link to a later
 // place, 1024 to the next one, that jumps no right end. `fall_in` takes a row of n slots, its cells from 0 to n + 1. Nothing is refused here. The
-// contracts cite `specs/Fell.antt` and the definitions of segments_model.
+// contracts cite `specs/UsedUp.antt`, `specs/Fell.antt` and the definitions of segments_model.
 use right_ends::hop;
 use right_ends::join;
-use right_ends::previous_end;
+use right_ends::latest_standing;
 use right_ends::spend;
 use right_ends::wide;
 ghost use Prim.Native.Nat.{_+_, _<_, _≤_};
 ghost use lib.ListN.{length};
 ghost use Rattle.segments_model.specs.Part.{Lent};
+ghost use Rattle.segments.specs.UsedUp.{UsedUp};
 ghost use Rattle.segments.specs.Fell.{Fell};
 
 // What a fall of the slack meets. No corner loses its last slack: the gap of the right end t fell by one, no right end is after the slot, or the
@@ -47,13 +48,27 @@ pub fn fall(cells: &mut [u16], n: usize, slot: usize) -> Hit
         cells[t] = (d - 1) as u16;
         return Hit::Lowered(t);
     }
-    let p = previous_end(cells, n, z, slot, t);
-    if p == z {
-        spend(cells, t);
-        return Hit::Reached(t, z);
+    use_up(cells, n, z, slot, t)
+}
+
+// The gap of t, the first right end after the slot, being used up: its segment is joined to the one before, or is the leftmost and is spent. The links
+// after the spent corner z lead to a right end up to the slot, or past it.
+fn use_up(cells: &mut [u16], n: usize, z: usize, slot: usize, t: usize) -> Hit
+    requires { ⌜ (z ≤ slot) × (slot < t) × (t ≤ n) × (n < length (now cells)) × (n < 1024) ⌝ }
+    ensures { λ r. ⌜ UsedUp n z slot t (now (cells .entry)) (now (cells .exit)) r ⌝ }
+{
+    let mut e = z + 1;
+    while e <= slot {
+        let c = wide(cells[e]);
+        if c < 1024 {
+            let p = latest_standing(cells, e, slot);
+            join(cells, p, t);
+            return Hit::Joined(p);
+        }
+        e = e + (c - 1023);
     }
-    join(cells, p, t);
-    Hit::Joined(p)
+    spend(cells, t);
+    Hit::Reached(t, z)
 }
 
 // The same for a row of n slots, the n + 2 cells from `base` on of a longer list, whose other cells stay.

@@ -1,6 +1,8 @@
 -- `right_ends::join` meets its contract: the code's two stores. Assumes nothing.
+use mathlib.Core.Path.{_≡_, ap}
+use Prim.Native.Nat.{ℕ, _+_, _-_}
 use native.Mathlib.Omega.{arith}
-use lib.ListN.{getD, length-set}
+use lib.ListN.{getD, set, length-set}
 use borrow.Author.Needs.{needs}
 use Rattle.right_ends.proofs.join.Statement.{statement}
 use Rattle.right_ends.proofs.join.Tie as tie
@@ -20,9 +22,6 @@ slice-write-cells c = search needs
 sub-cells : tie.Need-sub-cells
 sub-cells c = search needs
 
-sub-cells-2 : tie.Need-sub-cells-2
-sub-cells-2 c = search needs
-
 add-cells : tie.Need-add-cells
 add-cells c = search needs
 
@@ -40,7 +39,10 @@ same-length : tie.Need-same-length
 same-length c = search needs
 
 returns : tie.Need-returns
-returns c = search needs
+returns c =
+    let a = c .before .args in
+    let link : 1023 + (a .t - a .p) ≡ 1024 + (a .t - a .p - 1) = omega arith in
+    ap (λ (x : ℕ). set (set (a .cells .now) (a .t) (getD (a .cells .now) (a .p) 0)) (a .p) x) link
 
 pub join-spec : {M : Type 1} → statement M
 join-spec =
@@ -51,7 +53,6 @@ join-spec =
     mul-cells-2
     slice-write-cells
     sub-cells
-    sub-cells-2
     add-cells
     cast-cells
     mul-cells-3

@@ -8,7 +8,7 @@ use lib.ListN.{getD}
 use borrow.Author.Needs.{needs}
 use Rattle.segments_model.specs.Links.{nextOf}
 use Rattle.segments_model.proofs.LinksLaws.{Seeking, seeking-first, seeking-hop, seeking-past, seeking-end}
-use Rattle.segments.proofs.FellLaws.{Searched, searched-after, fell-clash, fell-none, fell-less, fell-join, fell-spend}
+use Rattle.segments.proofs.FellLaws.{Searched, searched-after, fell-clash, fell-none, fell-less, fell-used}
 use Rattle.segments.proofs.fall.Statement.{statement}
 use Rattle.segments.proofs.fall.Tie as tie
 
@@ -135,37 +135,18 @@ returns-4 c =
     let inv = c .before .before .loop .inv in
     fell-less (ended (c .before)) (inv .1) _ _ (inv .2) (c .if4 .taken) refl
 
-previous-end-requires : tie.Need-previous-end-requires Inv-loop μ-loop
-previous-end-requires c κs =
+use-up-requires : tie.Need-use-up-requires Inv-loop μ-loop
+use-up-requires c κs =
     let search = ended (c .before .before) in
     (omega (arith, c .before .before .before .before .before .before .before .before .before .before .before .wide .ensures .0, search .free), searched-after search, c .before .before .before .loop .inv .1, search .cells-in, search .few)
-
-spend-requires : tie.Need-spend-requires Inv-loop μ-loop
-spend-requires c κs =
-    let search = ended (c .before .before .before .before .before) in
-    omega (arith, c .before .before .before .before .before .before .loop .inv .1, search .cells-in, search .few)
 
 same-length-2 : tie.Need-same-length-2 Inv-loop μ-loop
 same-length-2 c = search needs
 
 returns-5 : tie.Need-returns-5 Inv-loop μ-loop
 returns-5 c =
-    let inv = c .before .before .before .before .before .before .before .before .before .loop .inv in
-    fell-spend (ended (c .before .before .before .before .before .before .before .before)) (inv .1) (omega (arith, inv .2, c .before .before .before .before .before .before .before .if4 .left)) (c .before .before .before .before .before .before .before .before .before .before .before .before .before .before .before .before .before .wide .ensures .0) (c .before .before .before .before .before .previous-end .ensures) _ (omega (arith, c .before .before .before .before .if5 .taken)) (c .before .before .spend .ensures)
-
-join-requires : tie.Need-join-requires Inv-loop μ-loop
-join-requires c κs =
-    let search = ended (c .before .before .before .before .before) in
-    let before = c .before .before .previous-end .ensures in
-    omega (arith, searched-after search, c .before .before .before .before .before .before .loop .inv .1, search .cells-in, search .few, (before .found (omega (arith, c .before .if5 .left, before .from))) .before)
-
-same-length-3 : tie.Need-same-length-3 Inv-loop μ-loop
-same-length-3 c = search needs
-
-returns-6 : tie.Need-returns-6 Inv-loop μ-loop
-returns-6 c =
-    let inv = c .before .before .before .before .before .before .before .before .before .loop .inv in
-    fell-join (ended (c .before .before .before .before .before .before .before .before)) (inv .1) (omega (arith, inv .2, c .before .before .before .before .before .before .before .if4 .left)) (c .before .before .before .before .before .before .before .before .before .before .before .before .before .before .before .before .before .wide .ensures .0) (c .before .before .before .before .before .previous-end .ensures) _ (c .before .before .before .before .if5 .left) (c .before .before .join .ensures)
+    let inv = c .before .before .before .before .before .before .loop .inv in
+    fell-used (ended (c .before .before .before .before .before)) (inv .1) (omega (arith, inv .2, c .before .before .before .before .if4 .left)) (c .before .before .before .before .before .before .before .before .before .before .before .before .before .before .wide .ensures .0) _ _ (c .before .before .use-up .ensures)
 
 pub fall-spec : {M : Type 1} → statement M
 fall-spec =
@@ -202,10 +183,6 @@ fall-spec =
     slice-write-cells
     same-length
     returns-4
-    previous-end-requires
-    spend-requires
+    use-up-requires
     same-length-2
-    returns-5
-    join-requires
-    same-length-3
-    returns-6)
+    returns-5)
