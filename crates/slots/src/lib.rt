@@ -66,6 +66,9 @@ pub fn open_block(cells: &[u16], n: usize, k: u32, b: usize, start: usize, end: 
         return 0u32;
     }
     let x = word(cells, n, k, b);
+    if x == 0 {
+        return 0u32;
+    }
     bits_before(bits_from(x, 32 * b, start), 32 * b, end)
 }
 

@@ -1,6 +1,6 @@
--- `slots::open_block` meets its contract: the end is before the block (`block-none`), or the block's two words are cut to the slots from the
--- start on and before the end (`block-bits`). Assumes nothing.
-use Rattle.slots.proofs.BlockLaws.{block-none, block-bits}
+-- `slots::open_block` meets its contract: the end is before the block (`block-none`), or the block's two words have no slot (`block-empty`), or are
+-- cut to the slots from the start on and before the end (`block-bits`). Assumes nothing.
+use Rattle.slots.proofs.BlockLaws.{block-none, block-empty, block-bits}
 use borrow.Author.Needs.{needs}
 use Rattle.slots.proofs.open_block.Statement.{statement}
 use Rattle.slots.proofs.open_block.Tie as tie
@@ -15,6 +15,10 @@ returns c =
 word-requires : tie.Need-word-requires
 word-requires c κs = search needs
 
+returns-2 : tie.Need-returns-2
+returns-2 c =
+    block-empty _ _ _ _ _ _ (c .before .word .ensures) (c .if2 .taken)
+
 mul-bits-from : tie.Need-mul-bits-from
 mul-bits-from c = search needs
 
@@ -27,9 +31,10 @@ mul-bits-before c = search needs
 bits-before-requires : tie.Need-bits-before-requires
 bits-before-requires c κs = search needs
 
-returns-2 : tie.Need-returns-2
-returns-2 c =
-    block-bits _ _ _ (c .before .before .before .before .before .args .b) (c .before .before .before .before .before .args .start) (c .before .before .before .before .before .args .end) (c .before .bits-from .result) (c .before .before .word .ensures) (c .before .bits-from .ensures) (c .bits-before .ensures)
+returns-3 : tie.Need-returns-3
+returns-3 c =
+    let a = c .before .before .before .before .before .before .args in
+    block-bits _ _ _ (a .b) (a .start) (a .end) (c .before .bits-from .result) (c .before .before .before .word .ensures) (c .before .bits-from .ensures) (c .bits-before .ensures)
 
 pub open-block-spec : {M : Type 1} → statement M
 open-block-spec =
@@ -38,8 +43,9 @@ open-block-spec =
     add-if1
     returns
     word-requires
+    returns-2
     mul-bits-from
     bits-from-requires
     mul-bits-before
     bits-before-requires
-    returns-2)
+    returns-3)
