@@ -1,1 +1,1 @@
-mod PerformLaws
+pub mod PerformLaws
