@@ -1,14 +1,17 @@
 -- `strike` from its parts: the value is not there (`strike-absent`), no stable list allows the strike (`strike-contradicted`), or it is made and
 -- followed (`strike-followed`; `thin-quiet` and `thin-followed` where several values are left). `follow` from its two loops: none, one, a dead
--- end in the first, or both (`follow-none` to `follow-both`). A fix to an absent value is a dead end (`fix-absent`).
+-- end in the first, or both (`follow-none` to `follow-both`). A fix to an absent value is a dead end (`fix-absent`), one of two values is a strike
+-- of the other (`strike-last`).
 -- No contract cites this file. Assumes nothing.
 use mathlib.Core.Path.{_≡_, refl, sym, _∙_}
 use mathlib.Core.Bool.{Bool, true, false}
 use mathlib.Core.Logic.{_⊎_, inl, inr, ⊎-elim, dite}
 use mathlib.Core.List.{List}
-use Prim.Native.Nat.{ℕ, _+_, _<_, zero-le}
+use Prim.Native.Nat.{ℕ, _+_, _≤_, _<_, zero-le}
 use native.Mathlib.Decide.{decLt}
 use native.Mathlib.Omega.{arith}
+use lib.Count.{ones}
+use lib.ListN.{length, getD}
 use Rattle.domains.specs.Masks.{HasAt, Alive}
 use Rattle.domains.proofs.MaskLaws.{testBit-fixed-same}
 use Rattle.domains.proofs.MasksLaws.{has-subset, fixed-subset}
@@ -25,6 +28,7 @@ use Rattle.outcomes.specs.Codes.{isDead}
 use Rattle.outcomes.proofs.CodeLaws.{dead-not-lived}
 use Rattle.outcomes.specs.declared.Outcome.{Outcome}
 use Rattle.outcomes.specs.declared.Outcome.the-variants.{Live, Dead}
+use Rattle.filter.proofs.LoopLaws.{Other, other-cut, other-last}
 use Rattle.filter.proofs.FilteredLaws.{filtered-refl, filtered-more, filtered-goal, filtered-asks}
 
 -- ---- nothing changed
@@ -44,6 +48,14 @@ strike-contradicted {n = n} {k = k} {m = m} {c = c} {t = t} {top = top} contradi
       keeps = dead;
       goal = λ no. absurd no;
     })
+
+-- where v and w are all, the strike of w fixes the slot to v
+pub strike-last : {n k top slot v w : ℕ} {m c t m′ c′ t′ : List ℕ} {r : Outcome} → Other m slot v w → HasAt m slot v → ones (getD m slot 0) ≤ 2
+    → slot < length m → Alive m → Filtered n k (StrikeCut slot w) (StrikeCut slot w) m c t top m′ c′ t′ r
+    → Filtered n k (FixCut slot v) (FixCut slot v) m c t top m′ c′ t′ r
+strike-last {slot = slot} {v} other has few inside alive struck =
+    filtered-asks (other-cut other)
+    (filtered-goal {K = FixCut slot v} struck (λ live. other-last other has few inside (struck .moved .within) (struck .moved .alive alive)))
 
 -- a slot that lacks v is fixed to v in no list
 pub fix-absent : {n k : ℕ} {G : List ℕ → Type 0} (m c t : List ℕ) (top slot v : ℕ) → (HasAt m slot v → ⊥)

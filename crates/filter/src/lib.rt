@@ -148,7 +148,16 @@ pub fn fix_free(
         let w = domains::lowest(word);
         word = domains::less(word, w);
         let s = 32 * b + w as usize;
-        if !slots::is_free(masks, s, v) {
+        let rest = slots::other_values(masks, s, v);
+        if rest == 0 {
+            continue;
+        }
+        if domains::is_single(rest) {
+            let x = strike(masks, cells, trail, n, k, h, s, domains::lowest(rest));
+            if is_dead(x) {
+                return x;
+            }
+            h = height(x);
             continue;
         }
         let x = fix(masks, cells, trail, n, k, h, s, v);

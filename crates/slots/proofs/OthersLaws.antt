@@ -1,13 +1,14 @@
--- The laws of `OtherValues` of `specs/Values.antt`: that it holds (`others-none`, `others-of`), what it says where several values are left
--- (`others-wide`) or at most one (`others-few`), and a strike of one of them (`less-with`, `others-less`). No contract cites this file. Assumes
--- nothing.
+-- The laws of `OtherValues` of `specs/Values.antt`: that it holds (`others-none`, `others-of`), what it says where values are left (`others-free`),
+-- several (`others-wide`) or at most one (`others-few`), and a strike of one of them (`less-with`, `others-less`). No contract cites this file.
+-- Assumes nothing.
 use mathlib.Core.Path.{_≡_, sym, ap, _∙_}
 use Prim.Native.Nat.{ℕ, _+_, _^_, _≤_, _<_}
 use native.Mathlib.Omega.{arith}
 use lib.Count.{ones}
-use Rattle.domains.specs.Mask.{testBit, clearBit, Has}
+use Rattle.domains.specs.Mask.{testBit, clearBit, Has, Fixed}
 use Rattle.domains.proofs.MaskLaws.{testBit-lt, clearBit-has, testBit-clearBit-same, testBit-clearBit-le, testBit-put-same, clearBit-put}
-use Rattle.domains.proofs.MaskLaws.{ones-none, ones-clearBit}
+use Rattle.domains.proofs.MaskLaws.{ones-none, ones-empty, ones-clearBit}
+use Rattle.filter_model.proofs.StoreLaws.{many-free}
 use Rattle.slots.specs.Values.{OtherValues}
 
 -- ---- OtherValues
@@ -21,6 +22,17 @@ others-of m v has is = record { besides = λ _. is; has = λ _. has }
 module _ (m v : ℕ) {rest : ℕ} (others : OtherValues m v rest) where
   pub others-few : ones rest ≤ 1 → Has m v → ones m ≤ 2
   others-few few has = omega (arith, few, has, ap ones (others .besides has), ones-clearBit m v)
+
+  pub others-free : 0 < rest → Has m v × (Fixed m v → ⊥)
+  others-free some =
+      let has = others .has some in (
+        has,
+        many-free m
+            (λ one.
+            let none : ones rest ≡ 0 = omega (arith, one, has, ap ones (others .besides has), ones-clearBit m v) in
+            omega (arith, some, ones-empty rest none))
+            v,
+      )
 
   module _ (many : 1 < ones rest) where
     pub others-some : 0 < rest

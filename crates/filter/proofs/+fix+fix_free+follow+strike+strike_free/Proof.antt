@@ -2,7 +2,7 @@
 -- 1 for `fix`, 2 for `fix_free` and `strike_free`, and 3 for `follow`. The invariant of each loop is `Filtered` for what was passed: in
 -- `fix` the other values that are struck, and that `rest` is what the slot has besides v (`others-less`); in the two others the slots that are settled
 -- (`FreeInv`, whose turns are those of TurnLaws). A strike by `thin` is `thin-quiet` or `thin-followed`; `strike` is `strike-followed`, and `follow` is `follow-both` where both
--- its loops run. Assumes nothing.
+-- its loops run; a slot of two values is fixed by one strike, `strike-last`. Assumes nothing.
 use mathlib.Core.Path.{_≡_, refl, sym, _∙_}
 use mathlib.Core.Bool.{true, false}
 use mathlib.Core.List.{List}
@@ -20,15 +20,15 @@ use Rattle.strikes.proofs.AnswerLaws.{answer-contradicted, answer-removed}
 use Rattle.strikes.proofs.LeftLaws.{removed-left}
 use Rattle.thinning.proofs.ThinnedLaws.{thinned-clash, thinned-made}
 use Rattle.slots.proofs.FreeLaws.{free-no, free-yes}
-use Rattle.slots.proofs.OthersLaws.{others-few, others-some, others-are, others-wide, less-lacks, less-with, others-less}
+use Rattle.slots.proofs.OthersLaws.{others-free, others-few, others-some, others-are, others-wide, less-lacks, less-with, others-less}
 use Rattle.filter.specs.Filtered.{Filtered}
 use Rattle.outcomes.specs.declared.Outcome.the-variants.{Live}
-use Rattle.filter.proofs.FilteredLaws.{filtered-at, filtered-live, filtered-refl, filtered-more, filtered-stop, filtered-goal, filtered-asks}
-use Rattle.filter.proofs.LoopLaws.{Other, other-of, other-has, other-value, other-cut, other-last, other-none, total-less}
+use Rattle.filter.proofs.FilteredLaws.{filtered-at, filtered-live, filtered-refl, filtered-more, filtered-stop, filtered-goal}
+use Rattle.filter.proofs.LoopLaws.{Other, other-of, other-has, other-value, other-cut, other-none, total-less}
 use Rattle.filter.proofs.SweepLaws.{block-asked}
 use Rattle.filter.proofs.TurnLaws.{FreeInv, turn-first, turn-world, turn-end, turn-asked, turn-block}
 use Rattle.filter.proofs.TurnLaws.{turn-slot, turn-ready, turn-less, turn-settled, turn-cut, turn-dead}
-use Rattle.filter.proofs.StrikeLaws.{strike-absent, strike-contradicted, strike-followed}
+use Rattle.filter.proofs.StrikeLaws.{strike-absent, strike-contradicted, strike-last, strike-followed}
 use Rattle.filter.proofs.StrikeLaws.{fix-absent, follow-none, follow-high, follow-low, follow-dead, follow-both, thin-quiet, thin-followed}
 use borrow.Fn.Kinds.{In}
 use borrow.Fn.PlainCycle.{Measures, is, falls, and}
@@ -48,6 +48,7 @@ use Rattle.filter.proofs.strike_free.Reads as strike-free
 use Rattle.filter.proofs.strike_free.Kinds as strike-free-kinds
 use Rattle.filter.proofs.+fix+fix_free+follow+strike+strike_free.Lts-strike_free as strike-free-lts
 use Rattle.domains.proofs.count.Reads as count-reads
+use Rattle.domains.proofs.is_single.Reads as is-single-reads
 use Rattle.domains.proofs.less.Reads as less-reads
 use Rattle.domains.proofs.lowest.Reads as lowest-reads
 use Rattle.domains.proofs.with.Reads as with-reads
@@ -120,7 +121,7 @@ strike-free-below t =
     and 3 strike-free-kinds.ps (falls 3 strike-free-kinds.ps _<_ μ-strike-free t) strike-free.Pre
 
 abbrev fix-free-calls : ℕ → fix-free-lts.Claims
-fix-free-calls t = (open-block-reads.Asked, open-block-reads.Learnt, lowest-reads.Asked, lowest-reads.Learnt, less-reads.Asked, less-reads.Learnt, is-free-reads.Asked, is-free-reads.Learnt, fix-below t, fix.Post, is-dead-reads.Asked, is-dead-reads.Learnt, height-reads.Asked, height-reads.Learnt, live-at-reads.Asked, live-at-reads.Learnt)
+fix-free-calls t = (open-block-reads.Asked, open-block-reads.Learnt, lowest-reads.Asked, lowest-reads.Learnt, less-reads.Asked, less-reads.Learnt, other-values-reads.Asked, other-values-reads.Learnt, is-single-reads.Asked, is-single-reads.Learnt, strike-below t, strike.Post, is-dead-reads.Asked, is-dead-reads.Learnt, height-reads.Asked, height-reads.Learnt, fix-below t, fix.Post, live-at-reads.Asked, live-at-reads.Learnt)
 
 abbrev follow-calls : ℕ → follow-lts.Claims
 follow-calls t = (strike-free-below t, strike-free.Post, fix-free-below t, fix-free.Post, is-dead-reads.Asked, is-dead-reads.Learnt, height-reads.Asked, height-reads.Learnt)
@@ -333,10 +334,7 @@ fix-returns-3 t c =
     let struck = c .before .before .before .before .before .before .strike .ensures in
     let few : ones (c .before .before .before .before .before .before .before .before .before .before .before .before .before .before .loop .rest) ≤ 1 = omega (arith, c .before .before .before .before .before .before .before .before .before .before .before .before .before .count .ensures, c .before .before .before .before .before .before .before .before .before .before .before .before .if1 .left) in
     let inside : c .before .before .before .before .before .before .before .before .before .before .before .before .before .before .before .before .before .before .before .before .args .slot < length (c .before .before .before .before .before .before .before .before .before .before .before .before .before .before .loop .masks) = omega (arith, inv .done .moved .within .len, ready-slot ready) in
-    filtered-more (inv .done)
-    (filtered-asks (other-cut other)
-    (filtered-goal {K = FixCut (c .before .before .before .before .before .before .before .before .before .before .before .before .before .before .before .before .before .before .before .before .args .slot) (c .before .before .before .before .before .before .before .before .before .before .before .before .before .before .before .before .before .before .before .before .args .v)} struck (λ live. other-last other has (others-few _ _ (inv .others) few has) inside (struck .moved .within) (struck .moved .alive (world .alive)))))
-    (λ N cut. cut)
+    filtered-more (inv .done) (strike-last other has (others-few _ _ (inv .others) few has) inside (world .alive) struck) (λ N cut. cut)
     (λ live before fixed. fixed)
 
 fix-has-value-requires : (t : ℕ) → fix-lts.Need-has-value-requires (fix-calls t) (fix-at t) fix.Post fix-Inv-loop fix-μ-loop
@@ -418,55 +416,112 @@ fix-free-cast-s t c = omega (arith, c .before .lowest .ensures .0)
 fix-free-add-s : (t : ℕ) → fix-free-lts.Need-add-s (fix-free-calls t) (fix-free-at t) fix-free.Post fix-free-Inv-loop fix-free-μ-loop
 fix-free-add-s t c = omega (arith, c .before .before .before .loop-test .taken, c .before .lowest .ensures .0, c .before .before .before .before .before .before .before .before .before .before .pre .1 .end-in, c .before .before .before .before .before .before .before .before .before .before .pre .1 .world .slots-fit)
 
-fix-free-is-free-requires : (t : ℕ) → fix-free-lts.Need-is-free-requires (fix-free-calls t) (fix-free-at t) fix-free.Post fix-free-Inv-loop fix-free-μ-loop
-fix-free-is-free-requires t c κs =
+fix-free-other-values-requires : (t : ℕ) → fix-free-lts.Need-other-values-requires (fix-free-calls t) (fix-free-at t) fix-free.Post fix-free-Inv-loop fix-free-μ-loop
+fix-free-other-values-requires t c κs =
     let pruning = c .before .before .before .before .before .before .before .before .before .before .before .pre .1 in (
       turn-slot pruning (c .before .before .before .before .before .loop .inv) (c .before .before .lowest .result) (c .before .before .lowest .ensures .1 .has),
       omega (arith, pruning .value-in, pruning .world .values-fit),
     )
 
 fix-free-loop-less-2 : (t : ℕ) → fix-free-lts.Need-loop-less-2 (fix-free-calls t) (fix-free-at t) fix-free.Post fix-free-Inv-loop fix-free-μ-loop
-fix-free-loop-less-2 t c = omega (arith, turn-less (c .before .before .before .before .before .before .before .before .before .before .before .before .before .pre .1) (c .before .before .before .before .before .before .before .loop .inv) (c .before .before .before .before .lowest .result) (c .before .before .before .before .lowest .ensures .1 .has) (c .before .before .before .less .ensures))
+fix-free-loop-less-2 t c =
+    omega (arith, turn-less (c .before .before .before .before .before .before .before .before .before .before .before .before .before .pre .1) (c .before .before .before .before .before .before .before .loop .inv) (c .before .before .before .before .lowest .result) (c .before .before .before .before .lowest .ensures .1 .has) (c .before .before .before .less .ensures))
 
 fix-free-loop-again-2 : (t : ℕ) → fix-free-lts.Need-loop-again-2 (fix-free-calls t) (fix-free-at t) fix-free.Post fix-free-Inv-loop fix-free-μ-loop
-fix-free-loop-again-2 t c = turn-settled (c .before .before .before .before .before .before .before .before .before .before .before .before .before .pre .1) (c .before .before .before .before .before .before .before .loop .inv) (c .before .before .before .before .lowest .result) (c .before .before .before .before .lowest .ensures .1 .has) (c .before .before .before .less .ensures) (free-no _ _ {r = c .before .is-free .result} (not-true _ (c .if2 .taken)) (c .before .is-free .ensures))
+fix-free-loop-again-2 t c =
+    turn-settled (c .before .before .before .before .before .before .before .before .before .before .before .before .before .pre .1) (c .before .before .before .before .before .before .before .loop .inv) (c .before .before .before .before .lowest .result) (c .before .before .before .before .lowest .ensures .1 .has) (c .before .before .before .less .ensures)
+    (λ has. other-none (c .before .before .before .before .before .before .before .loop .masks) (32 * c .before .before .before .before .before .before .before .loop .b + c .before .before .before .before .lowest .result) (c .before .before .before .before .before .before .before .before .before .before .before .before .before .args .v) has (c .before .other-values .ensures .besides has) (c .if2 .taken) .fixed)
 
 -- the slot is free
-fix-free-free : (t : ℕ) (c : fix-free-lts.Else2 (fix-free-calls t) (fix-free-at t) fix-free.Post fix-free-Inv-loop fix-free-μ-loop) → HasAt (c .before .before .before .before .before .before .before .loop .masks) (32 * c .before .before .before .before .before .before .before .loop .b + c .before .before .before .before .lowest .result) (c .before .before .before .before .before .before .before .before .before .before .before .before .before .args .v)
+fix-free-free : (t : ℕ) (c : fix-free-lts.Else2 (fix-free-calls t) (fix-free-at t) fix-free.Post fix-free-Inv-loop fix-free-μ-loop)
+    → HasAt (c .before .before .before .before .before .before .before .loop .masks) (32 * c .before .before .before .before .before .before .before .loop .b + c .before .before .before .before .lowest .result) (c .before .before .before .before .before .before .before .before .before .before .before .before .before .args .v)
     × (FixedAt (c .before .before .before .before .before .before .before .loop .masks) (32 * c .before .before .before .before .before .before .before .loop .b + c .before .before .before .before .lowest .result) (c .before .before .before .before .before .before .before .before .before .before .before .before .before .args .v) → ⊥)
-fix-free-free t c = free-yes _ _ {r = c .before .is-free .result} (not-false _ (c .if2 .left)) (c .before .is-free .ensures)
+fix-free-free t c =
+    others-free _ _ (c .before .other-values .ensures) (omega (arith, c .if2 .left))
 
-fix-free-fix-requires : (t : ℕ) → fix-free-lts.Need-fix-requires (fix-free-calls t) (fix-free-at t) fix-free.Post fix-free-Inv-loop fix-free-μ-loop
-fix-free-fix-requires t c κs =
-    let pre = c .before .before .before .before .before .before .before .before .before .before .before .before .before .before .before .before .pre in (
-      omega (arith, total-less (c .before .before .before .before .before .before .before .before .before .before .loop .inv .done .moved .within), pre .0),
-      turn-ready (pre .1) (c .before .before .before .before .before .before .before .before .before .before .loop .inv) (c .before .before .before .before .before .before .before .lowest .result) (c .before .before .before .before .before .before .before .lowest .ensures .1 .has),
+fix-free-is-single-requires : (t : ℕ) → fix-free-lts.Need-is-single-requires (fix-free-calls t) (fix-free-at t) fix-free.Post fix-free-Inv-loop fix-free-μ-loop
+fix-free-is-single-requires t c κs = search needs
+
+-- it has two values
+fix-free-few : (t : ℕ) (c : fix-free-lts.Then3 (fix-free-calls t) (fix-free-at t) fix-free.Post fix-free-Inv-loop fix-free-μ-loop)
+    → ones (getD (c .before .before .before .before .before .before .before .before .before .loop .masks) (32 * c .before .before .before .before .before .before .before .before .before .loop .b + c .before .before .before .before .before .before .lowest .result) 0) ≤ 2
+fix-free-few t c =
+    let one : ones (c .before .before .before .other-values .result) ≡ 1 = eqb-true _ _ (sym (c .before .is-single .ensures) ∙ c .if3 .taken) in
+    others-few _ _ (c .before .before .before .other-values .ensures) (omega (arith, one)) (fix-free-free t (c .before .before) .0)
+
+fix-free-lowest-requires-2 : (t : ℕ) → fix-free-lts.Need-lowest-requires-2 (fix-free-calls t) (fix-free-at t) fix-free.Post fix-free-Inv-loop fix-free-μ-loop
+fix-free-lowest-requires-2 t c κs = omega (arith, c .before .before .before .before .before .if2 .left)
+
+-- the one that is struck
+fix-free-last : (t : ℕ) (c : fix-free-lts.After-lowest2 (fix-free-calls t) (fix-free-at t) fix-free.Post fix-free-Inv-loop fix-free-μ-loop)
+    → Other (c .before .before .before .before .before .before .before .before .before .before .before .before .before .loop .masks) (32 * c .before .before .before .before .before .before .before .before .before .before .before .before .before .loop .b + c .before .before .before .before .before .before .before .before .before .before .lowest .result) (c .before .before .before .before .before .before .before .before .before .before .before .before .before .before .before .before .before .before .before .args .v) (c .lowest2 .result)
+fix-free-last t c =
+    other-of _ _ _ _ (c .before .before .before .before .before .before .before .other-values .ensures .besides (fix-free-free t (c .before .before .before .before .before .before) .0)) (c .lowest2 .ensures .1 .has)
+
+fix-free-strike-requires : (t : ℕ) → fix-free-lts.Need-strike-requires (fix-free-calls t) (fix-free-at t) fix-free.Post fix-free-Inv-loop fix-free-μ-loop
+fix-free-strike-requires t c κs =
+    let pre = c .before .before .before .before .before .before .before .before .before .before .before .before .before .before .before .before .before .before .before .pre in
+    let ready = turn-ready (pre .1) (c .before .before .before .before .before .before .before .before .before .before .before .before .before .loop .inv) (c .before .before .before .before .before .before .before .before .before .before .lowest .result) (c .before .before .before .before .before .before .before .before .before .before .lowest .ensures .1 .has) in (
+      omega (arith, total-less (c .before .before .before .before .before .before .before .before .before .before .before .before .before .loop .inv .done .moved .within), pre .0),
+      record { world = ready .world; opens = ready .opens; slot-in = ready .slot-in; value-in = other-value (fix-free-last t c) (ready .world) },
     )
 
 fix-free-is-dead-requires : (t : ℕ) → fix-free-lts.Need-is-dead-requires (fix-free-calls t) (fix-free-at t) fix-free.Post fix-free-Inv-loop fix-free-μ-loop
 fix-free-is-dead-requires t c κs = search needs
 
 fix-free-returns : (t : ℕ) → fix-free-lts.Need-returns (fix-free-calls t) (fix-free-at t) fix-free.Post fix-free-Inv-loop fix-free-μ-loop
-fix-free-returns t c = turn-dead (c .before .before .before .before .before .before .before .before .before .before .before .before .before .before .before .before .before .before .before .before .before .before .before .before .before .pre .1) (c .before .before .before .before .before .before .before .before .before .before .before .before .before .before .before .before .before .before .before .loop .inv) (c .before .before .before .before .before .before .before .before .before .before .before .before .before .before .before .before .lowest .result) (c .before .before .before .before .before .before .before .before .before .before .before .before .before .before .before .before .lowest .ensures .1 .has) (fix-free-free t (c .before .before .before .before .before .before .before .before .before .before .before .before)) (c .before .is-dead .ensures) (c .if3 .taken) (c .before .before .before .before .before .before .before .before .fix .ensures)
+fix-free-returns t c =
+    turn-dead (c .before .before .before .before .before .before .before .before .before .before .before .before .before .before .before .before .before .before .before .before .before .before .before .before .before .before .before .before .pre .1) (c .before .before .before .before .before .before .before .before .before .before .before .before .before .before .before .before .before .before .before .before .before .before .loop .inv) (c .before .before .before .before .before .before .before .before .before .before .before .before .before .before .before .before .before .before .before .lowest .result) (c .before .before .before .before .before .before .before .before .before .before .before .before .before .before .before .before .before .before .before .lowest .ensures .1 .has) (fix-free-free t (c .before .before .before .before .before .before .before .before .before .before .before .before .before .before .before)) (c .before .is-dead .ensures) (c .if4 .taken)
+    (strike-last (fix-free-last t (c .before .before .before .before .before .before .before .before .before)) (fix-free-free t (c .before .before .before .before .before .before .before .before .before .before .before .before .before .before .before) .0) (fix-free-few t (c .before .before .before .before .before .before .before .before .before .before .before .before .before)) (turn-slot (c .before .before .before .before .before .before .before .before .before .before .before .before .before .before .before .before .before .before .before .before .before .before .before .before .before .before .before .before .pre .1) (c .before .before .before .before .before .before .before .before .before .before .before .before .before .before .before .before .before .before .before .before .before .before .loop .inv) (c .before .before .before .before .before .before .before .before .before .before .before .before .before .before .before .before .before .before .before .lowest .result) (c .before .before .before .before .before .before .before .before .before .before .before .before .before .before .before .before .before .before .before .lowest .ensures .1 .has))
+    (turn-world (c .before .before .before .before .before .before .before .before .before .before .before .before .before .before .before .before .before .before .before .before .before .before .before .before .before .before .before .before .pre .1) (c .before .before .before .before .before .before .before .before .before .before .before .before .before .before .before .before .before .before .before .before .before .before .loop .inv) .alive) (c .before .before .before .before .before .before .before .before .strike .ensures))
 
 fix-free-height-requires : (t : ℕ) → fix-free-lts.Need-height-requires (fix-free-calls t) (fix-free-at t) fix-free.Post fix-free-Inv-loop fix-free-μ-loop
 fix-free-height-requires t c κs = search needs
 
 fix-free-loop-less-3 : (t : ℕ) → fix-free-lts.Need-loop-less-3 (fix-free-calls t) (fix-free-at t) fix-free.Post fix-free-Inv-loop fix-free-μ-loop
-fix-free-loop-less-3 t c = omega (arith, turn-less (c .before .before .before .before .before .before .before .before .before .before .before .before .before .before .before .before .before .before .before .before .before .before .before .before .before .before .pre .1) (c .before .before .before .before .before .before .before .before .before .before .before .before .before .before .before .before .before .before .before .before .loop .inv) (c .before .before .before .before .before .before .before .before .before .before .before .before .before .before .before .before .before .lowest .result) (c .before .before .before .before .before .before .before .before .before .before .before .before .before .before .before .before .before .lowest .ensures .1 .has) (c .before .before .before .before .before .before .before .before .before .before .before .before .before .before .before .before .less .ensures))
+fix-free-loop-less-3 t c =
+    omega (arith, turn-less (c .before .before .before .before .before .before .before .before .before .before .before .before .before .before .before .before .before .before .before .before .before .before .before .before .before .before .before .before .before .pre .1) (c .before .before .before .before .before .before .before .before .before .before .before .before .before .before .before .before .before .before .before .before .before .before .before .loop .inv) (c .before .before .before .before .before .before .before .before .before .before .before .before .before .before .before .before .before .before .before .before .lowest .result) (c .before .before .before .before .before .before .before .before .before .before .before .before .before .before .before .before .before .before .before .before .lowest .ensures .1 .has) (c .before .before .before .before .before .before .before .before .before .before .before .before .before .before .before .before .before .before .before .less .ensures))
 
 fix-free-loop-again-3 : (t : ℕ) → fix-free-lts.Need-loop-again-3 (fix-free-calls t) (fix-free-at t) fix-free.Post fix-free-Inv-loop fix-free-μ-loop
 fix-free-loop-again-3 t c =
-    turn-cut (c .before .before .before .before .before .before .before .before .before .before .before .before .before .before .before .before .before .before .before .before .before .before .before .before .before .before .pre .1) (c .before .before .before .before .before .before .before .before .before .before .before .before .before .before .before .before .before .before .before .before .loop .inv) (c .before .before .before .before .before .before .before .before .before .before .before .before .before .before .before .before .before .lowest .result) (c .before .before .before .before .before .before .before .before .before .before .before .before .before .before .before .before .before .lowest .ensures .1 .has) (fix-free-free t (c .before .before .before .before .before .before .before .before .before .before .before .before .before)) (c .before .before .before .before .before .before .before .before .before .before .before .before .before .before .before .before .less .ensures)
-    (filtered-live (c .before .before .is-dead .ensures) (c .before .if3 .left) (c .height .ensures) (c .before .before .before .before .before .before .before .before .before .fix .ensures))
+    turn-cut (c .before .before .before .before .before .before .before .before .before .before .before .before .before .before .before .before .before .before .before .before .before .before .before .before .before .before .before .before .before .pre .1) (c .before .before .before .before .before .before .before .before .before .before .before .before .before .before .before .before .before .before .before .before .before .before .before .loop .inv) (c .before .before .before .before .before .before .before .before .before .before .before .before .before .before .before .before .before .before .before .before .lowest .result) (c .before .before .before .before .before .before .before .before .before .before .before .before .before .before .before .before .before .before .before .before .lowest .ensures .1 .has) (fix-free-free t (c .before .before .before .before .before .before .before .before .before .before .before .before .before .before .before .before)) (c .before .before .before .before .before .before .before .before .before .before .before .before .before .before .before .before .before .before .before .less .ensures)
+    (filtered-live (c .before .before .is-dead .ensures) (c .before .if4 .left) (c .height .ensures)
+    (strike-last (fix-free-last t (c .before .before .before .before .before .before .before .before .before .before)) (fix-free-free t (c .before .before .before .before .before .before .before .before .before .before .before .before .before .before .before .before) .0) (fix-free-few t (c .before .before .before .before .before .before .before .before .before .before .before .before .before .before)) (turn-slot (c .before .before .before .before .before .before .before .before .before .before .before .before .before .before .before .before .before .before .before .before .before .before .before .before .before .before .before .before .before .pre .1) (c .before .before .before .before .before .before .before .before .before .before .before .before .before .before .before .before .before .before .before .before .before .before .before .loop .inv) (c .before .before .before .before .before .before .before .before .before .before .before .before .before .before .before .before .before .before .before .before .lowest .result) (c .before .before .before .before .before .before .before .before .before .before .before .before .before .before .before .before .before .before .before .before .lowest .ensures .1 .has))
+    (turn-world (c .before .before .before .before .before .before .before .before .before .before .before .before .before .before .before .before .before .before .before .before .before .before .before .before .before .before .before .before .before .pre .1) (c .before .before .before .before .before .before .before .before .before .before .before .before .before .before .before .before .before .before .before .before .before .before .before .loop .inv) .alive) (c .before .before .before .before .before .before .before .before .before .strike .ensures)))
+
+fix-free-fix-requires : (t : ℕ) → fix-free-lts.Need-fix-requires (fix-free-calls t) (fix-free-at t) fix-free.Post fix-free-Inv-loop fix-free-μ-loop
+fix-free-fix-requires t c κs =
+    let pre = c .before .before .before .before .before .before .before .before .before .before .before .before .before .before .before .before .before .before .pre in (
+      omega (arith, total-less (c .before .before .before .before .before .before .before .before .before .before .before .before .loop .inv .done .moved .within), pre .0),
+      turn-ready (pre .1) (c .before .before .before .before .before .before .before .before .before .before .before .before .loop .inv) (c .before .before .before .before .before .before .before .before .before .lowest .result) (c .before .before .before .before .before .before .before .before .before .lowest .ensures .1 .has),
+    )
+
+fix-free-is-dead-requires-2 : (t : ℕ) → fix-free-lts.Need-is-dead-requires-2 (fix-free-calls t) (fix-free-at t) fix-free.Post fix-free-Inv-loop fix-free-μ-loop
+fix-free-is-dead-requires-2 t c κs = search needs
+
+fix-free-returns-2 : (t : ℕ) → fix-free-lts.Need-returns-2 (fix-free-calls t) (fix-free-at t) fix-free.Post fix-free-Inv-loop fix-free-μ-loop
+fix-free-returns-2 t c =
+    turn-dead (c .before .before .before .before .before .before .before .before .before .before .before .before .before .before .before .before .before .before .before .before .before .before .before .before .before .before .before .pre .1) (c .before .before .before .before .before .before .before .before .before .before .before .before .before .before .before .before .before .before .before .before .before .loop .inv) (c .before .before .before .before .before .before .before .before .before .before .before .before .before .before .before .before .before .before .lowest .result) (c .before .before .before .before .before .before .before .before .before .before .before .before .before .before .before .before .before .before .lowest .ensures .1 .has) (fix-free-free t (c .before .before .before .before .before .before .before .before .before .before .before .before .before .before)) (c .before .is-dead2 .ensures) (c .if5 .taken) (c .before .before .before .before .before .before .before .before .fix .ensures)
+
+fix-free-height-requires-2 : (t : ℕ) → fix-free-lts.Need-height-requires-2 (fix-free-calls t) (fix-free-at t) fix-free.Post fix-free-Inv-loop fix-free-μ-loop
+fix-free-height-requires-2 t c κs = search needs
+
+fix-free-loop-less-4 : (t : ℕ) → fix-free-lts.Need-loop-less-4 (fix-free-calls t) (fix-free-at t) fix-free.Post fix-free-Inv-loop fix-free-μ-loop
+fix-free-loop-less-4 t c =
+    omega (arith, turn-less (c .before .before .before .before .before .before .before .before .before .before .before .before .before .before .before .before .before .before .before .before .before .before .before .before .before .before .before .before .pre .1) (c .before .before .before .before .before .before .before .before .before .before .before .before .before .before .before .before .before .before .before .before .before .before .loop .inv) (c .before .before .before .before .before .before .before .before .before .before .before .before .before .before .before .before .before .before .before .lowest .result) (c .before .before .before .before .before .before .before .before .before .before .before .before .before .before .before .before .before .before .before .lowest .ensures .1 .has) (c .before .before .before .before .before .before .before .before .before .before .before .before .before .before .before .before .before .before .less .ensures))
+
+fix-free-loop-again-4 : (t : ℕ) → fix-free-lts.Need-loop-again-4 (fix-free-calls t) (fix-free-at t) fix-free.Post fix-free-Inv-loop fix-free-μ-loop
+fix-free-loop-again-4 t c =
+    turn-cut (c .before .before .before .before .before .before .before .before .before .before .before .before .before .before .before .before .before .before .before .before .before .before .before .before .before .before .before .before .pre .1) (c .before .before .before .before .before .before .before .before .before .before .before .before .before .before .before .before .before .before .before .before .before .before .loop .inv) (c .before .before .before .before .before .before .before .before .before .before .before .before .before .before .before .before .before .before .before .lowest .result) (c .before .before .before .before .before .before .before .before .before .before .before .before .before .before .before .before .before .before .before .lowest .ensures .1 .has) (fix-free-free t (c .before .before .before .before .before .before .before .before .before .before .before .before .before .before .before)) (c .before .before .before .before .before .before .before .before .before .before .before .before .before .before .before .before .before .before .less .ensures)
+    (filtered-live (c .before .before .is-dead2 .ensures) (c .before .if5 .left) (c .height2 .ensures) (c .before .before .before .before .before .before .before .before .before .fix .ensures))
 
 fix-free-live-at-requires : (t : ℕ) → fix-free-lts.Need-live-at-requires (fix-free-calls t) (fix-free-at t) fix-free.Post fix-free-Inv-loop fix-free-μ-loop
 fix-free-live-at-requires t c κs =
     let size : length (c .before .loop .trail) ≡ length (c .before .before .before .before .before .before .before .args .trail .now) = c .before .loop .inv .done .moved .trailed .size in
     omega (arith, turn-world (c .before .before .before .before .before .before .before .pre .1) (c .before .loop .inv) .room, size, c .before .before .before .before .before .before .before .good)
 
-fix-free-returns-2 : (t : ℕ) → fix-free-lts.Need-returns-2 (fix-free-calls t) (fix-free-at t) fix-free.Post fix-free-Inv-loop fix-free-μ-loop
-fix-free-returns-2 t c = filtered-at (sym (c .live-at .ensures)) (turn-end (c .before .before .before .before .before .before .before .before .pre .1) (c .before .before .loop .inv) (c .before .loop-test .left))
+fix-free-returns-3 : (t : ℕ) → fix-free-lts.Need-returns-3 (fix-free-calls t) (fix-free-at t) fix-free.Post fix-free-Inv-loop fix-free-μ-loop
+fix-free-returns-3 t c = filtered-at (sym (c .live-at .ensures)) (turn-end (c .before .before .before .before .before .before .before .before .pre .1) (c .before .before .loop .inv) (c .before .loop-test .left))
 
 follow-strike-free-requires : (t : ℕ) → follow-lts.Need-strike-free-requires (follow-calls t) (follow-at t) follow.Post
 follow-strike-free-requires t c κs =
@@ -820,6 +875,15 @@ fix-free-same-length-5 t c = fix-free-returns-2 t c .moved .cells-size
 fix-free-same-length-6 : (t : ℕ) → fix-free-lts.Need-same-length-6 (fix-free-calls t) (fix-free-at t) fix-free.Post fix-free-Inv-loop fix-free-μ-loop
 fix-free-same-length-6 t c = fix-free-returns-2 t c .moved .trailed .size
 
+fix-free-same-length-7 : (t : ℕ) → fix-free-lts.Need-same-length-7 (fix-free-calls t) (fix-free-at t) fix-free.Post fix-free-Inv-loop fix-free-μ-loop
+fix-free-same-length-7 t c = fix-free-returns-3 t c .moved .within .len
+
+fix-free-same-length-8 : (t : ℕ) → fix-free-lts.Need-same-length-8 (fix-free-calls t) (fix-free-at t) fix-free.Post fix-free-Inv-loop fix-free-μ-loop
+fix-free-same-length-8 t c = fix-free-returns-3 t c .moved .cells-size
+
+fix-free-same-length-9 : (t : ℕ) → fix-free-lts.Need-same-length-9 (fix-free-calls t) (fix-free-at t) fix-free.Post fix-free-Inv-loop fix-free-μ-loop
+fix-free-same-length-9 t c = fix-free-returns-3 t c .moved .trailed .size
+
 follow-same-length : (t : ℕ) → follow-lts.Need-same-length (follow-calls t) (follow-at t) follow.Post
 follow-same-length t c = follow-returns t c .moved .within .len
 
@@ -923,4 +987,4 @@ strike-free-same-length-12 : (t : ℕ) → strike-free-lts.Need-same-length-12 (
 strike-free-same-length-12 t c = strike-free-returns-4 t c .moved .trailed .size
 
 pub +fix+fix-free+follow+strike+strike-free-spec : {M : Type 1} → statement M
-+fix+fix-free+follow+strike+strike-free-spec = close μ-fix μ-fix-free μ-follow μ-strike μ-strike-free (λ t. fix-lts.spec (fix-calls t) (fix-at t) fix.Post fix-Inv-loop fix-μ-loop (fix-other-values-requires t) (fix-loop-holds t) (fix-count-requires t) (fix-lowest-requires t) (fix-less-requires t) (fix-with-requires t) (fix-thin-requires t) (fix-dead-at-requires t) (fix-same-length t) (fix-same-length-2 t) (fix-same-length-3 t) (fix-returns t) (fix-add-h t) (fix-loop-less t) (fix-loop-again t) (fix-fix-free-requires t) (fix-is-dead-requires t) (fix-same-length-4 t) (fix-same-length-5 t) (fix-same-length-6 t) (fix-returns-2 t) (fix-height-requires t) (fix-other-values-requires-2 t) (fix-loop-less-2 t) (fix-loop-again-2 t) (fix-lowest-requires-2 t) (fix-strike-requires t) (fix-same-length-7 t) (fix-same-length-8 t) (fix-same-length-9 t) (fix-returns-3 t) (fix-has-value-requires t) (fix-dead-at-requires-2 t) (fix-same-length-10 t) (fix-same-length-11 t) (fix-same-length-12 t) (fix-returns-4 t) (fix-live-at-requires t) (fix-same-length-13 t) (fix-same-length-14 t) (fix-same-length-15 t) (fix-returns-5 t)) (λ t. fix-free-lts.spec (fix-free-calls t) (fix-free-at t) fix-free.Post fix-free-Inv-loop fix-free-μ-loop (fix-free-open-block-requires t) (fix-free-loop-holds t) (fix-free-add-loop t) (fix-free-add-b t) (fix-free-open-block-requires-2 t) (fix-free-loop-less t) (fix-free-loop-again t) (fix-free-lowest-requires t) (fix-free-less-requires t) (fix-free-mul-s t) (fix-free-cast-s t) (fix-free-add-s t) (fix-free-is-free-requires t) (fix-free-loop-less-2 t) (fix-free-loop-again-2 t) (fix-free-fix-requires t) (fix-free-is-dead-requires t) (fix-free-same-length t) (fix-free-same-length-2 t) (fix-free-same-length-3 t) (fix-free-returns t) (fix-free-height-requires t) (fix-free-loop-less-3 t) (fix-free-loop-again-3 t) (fix-free-live-at-requires t) (fix-free-same-length-4 t) (fix-free-same-length-5 t) (fix-free-same-length-6 t) (fix-free-returns-2 t)) (λ t. follow-lts.spec (follow-calls t) (follow-at t) follow.Post (follow-strike-free-requires t) (follow-same-length t) (follow-same-length-2 t) (follow-same-length-3 t) (follow-returns t) (follow-fix-free-requires t) (follow-is-dead-requires t) (follow-same-length-4 t) (follow-same-length-5 t) (follow-same-length-6 t) (follow-returns-2 t) (follow-same-length-7 t) (follow-same-length-8 t) (follow-same-length-9 t) (follow-returns-3 t) (follow-height-requires t) (follow-strike-free-requires-2 t) (follow-same-length-10 t) (follow-same-length-11 t) (follow-same-length-12 t) (follow-returns-4 t)) (λ t. strike-lts.spec (strike-calls t) (strike-at t) strike.Post (strike-has-value-requires t) (strike-live-at-requires t) (strike-same-length t) (strike-returns t) (strike-strike-one-requires t) (strike-enum-known-o t) (strike-enum-told t) (strike-dead-at-requires t) (strike-same-length-2 t) (strike-same-length-3 t) (strike-same-length-4 t) (strike-returns-2 t) (strike-add-live-at t) (strike-live-at-requires-2 t) (strike-same-length-5 t) (strike-same-length-6 t) (strike-same-length-7 t) (strike-returns-3 t) (strike-add-follow t) (strike-follow-requires t) (strike-same-length-8 t) (strike-same-length-9 t) (strike-same-length-10 t) (strike-returns-4 t)) λ t. strike-free-lts.spec (strike-free-calls t) (strike-free-at t) strike-free.Post strike-free-Inv-loop strike-free-μ-loop (strike-free-open-block-requires t) (strike-free-loop-holds t) (strike-free-add-loop t) (strike-free-add-b t) (strike-free-open-block-requires-2 t) (strike-free-loop-less t) (strike-free-loop-again t) (strike-free-lowest-requires t) (strike-free-less-requires t) (strike-free-mul-slot t) (strike-free-cast-slot t) (strike-free-add-slot t) (strike-free-is-free-requires t) (strike-free-loop-less-2 t) (strike-free-loop-again-2 t) (strike-free-is-wide-requires t) (strike-free-strike-requires t) (strike-free-is-dead-requires t) (strike-free-same-length t) (strike-free-same-length-2 t) (strike-free-same-length-3 t) (strike-free-returns t) (strike-free-height-requires t) (strike-free-loop-less-3 t) (strike-free-loop-again-3 t) (strike-free-without-value-requires t) (strike-free-thin-requires t) (strike-free-dead-at-requires t) (strike-free-same-length-4 t) (strike-free-same-length-5 t) (strike-free-same-length-6 t) (strike-free-returns-2 t) (strike-free-add-h t) (strike-free-loop-less-4 t) (strike-free-loop-again-4 t) (strike-free-fix-free-requires t) (strike-free-is-dead-requires-2 t) (strike-free-same-length-7 t) (strike-free-same-length-8 t) (strike-free-same-length-9 t) (strike-free-returns-3 t) (strike-free-height-requires-2 t) (strike-free-loop-less-5 t) (strike-free-loop-again-5 t) (strike-free-live-at-requires t) (strike-free-same-length-10 t) (strike-free-same-length-11 t) (strike-free-same-length-12 t) (strike-free-returns-4 t)
++fix+fix-free+follow+strike+strike-free-spec = close μ-fix μ-fix-free μ-follow μ-strike μ-strike-free (λ t. fix-lts.spec (fix-calls t) (fix-at t) fix.Post fix-Inv-loop fix-μ-loop (fix-other-values-requires t) (fix-loop-holds t) (fix-count-requires t) (fix-lowest-requires t) (fix-less-requires t) (fix-with-requires t) (fix-thin-requires t) (fix-dead-at-requires t) (fix-same-length t) (fix-same-length-2 t) (fix-same-length-3 t) (fix-returns t) (fix-add-h t) (fix-loop-less t) (fix-loop-again t) (fix-fix-free-requires t) (fix-is-dead-requires t) (fix-same-length-4 t) (fix-same-length-5 t) (fix-same-length-6 t) (fix-returns-2 t) (fix-height-requires t) (fix-other-values-requires-2 t) (fix-loop-less-2 t) (fix-loop-again-2 t) (fix-lowest-requires-2 t) (fix-strike-requires t) (fix-same-length-7 t) (fix-same-length-8 t) (fix-same-length-9 t) (fix-returns-3 t) (fix-has-value-requires t) (fix-dead-at-requires-2 t) (fix-same-length-10 t) (fix-same-length-11 t) (fix-same-length-12 t) (fix-returns-4 t) (fix-live-at-requires t) (fix-same-length-13 t) (fix-same-length-14 t) (fix-same-length-15 t) (fix-returns-5 t)) (λ t. fix-free-lts.spec (fix-free-calls t) (fix-free-at t) fix-free.Post fix-free-Inv-loop fix-free-μ-loop (fix-free-open-block-requires t) (fix-free-loop-holds t) (fix-free-add-loop t) (fix-free-add-b t) (fix-free-open-block-requires-2 t) (fix-free-loop-less t) (fix-free-loop-again t) (fix-free-lowest-requires t) (fix-free-less-requires t) (fix-free-mul-s t) (fix-free-cast-s t) (fix-free-add-s t) (fix-free-other-values-requires t) (fix-free-loop-less-2 t) (fix-free-loop-again-2 t) (fix-free-is-single-requires t) (fix-free-lowest-requires-2 t) (fix-free-strike-requires t) (fix-free-is-dead-requires t) (fix-free-same-length t) (fix-free-same-length-2 t) (fix-free-same-length-3 t) (fix-free-returns t) (fix-free-height-requires t) (fix-free-loop-less-3 t) (fix-free-loop-again-3 t) (fix-free-fix-requires t) (fix-free-is-dead-requires-2 t) (fix-free-same-length-4 t) (fix-free-same-length-5 t) (fix-free-same-length-6 t) (fix-free-returns-2 t) (fix-free-height-requires-2 t) (fix-free-loop-less-4 t) (fix-free-loop-again-4 t) (fix-free-live-at-requires t) (fix-free-same-length-7 t) (fix-free-same-length-8 t) (fix-free-same-length-9 t) (fix-free-returns-3 t)) (λ t. follow-lts.spec (follow-calls t) (follow-at t) follow.Post (follow-strike-free-requires t) (follow-same-length t) (follow-same-length-2 t) (follow-same-length-3 t) (follow-returns t) (follow-fix-free-requires t) (follow-is-dead-requires t) (follow-same-length-4 t) (follow-same-length-5 t) (follow-same-length-6 t) (follow-returns-2 t) (follow-same-length-7 t) (follow-same-length-8 t) (follow-same-length-9 t) (follow-returns-3 t) (follow-height-requires t) (follow-strike-free-requires-2 t) (follow-same-length-10 t) (follow-same-length-11 t) (follow-same-length-12 t) (follow-returns-4 t)) (λ t. strike-lts.spec (strike-calls t) (strike-at t) strike.Post (strike-has-value-requires t) (strike-live-at-requires t) (strike-same-length t) (strike-returns t) (strike-strike-one-requires t) (strike-enum-known-o t) (strike-enum-told t) (strike-dead-at-requires t) (strike-same-length-2 t) (strike-same-length-3 t) (strike-same-length-4 t) (strike-returns-2 t) (strike-add-live-at t) (strike-live-at-requires-2 t) (strike-same-length-5 t) (strike-same-length-6 t) (strike-same-length-7 t) (strike-returns-3 t) (strike-add-follow t) (strike-follow-requires t) (strike-same-length-8 t) (strike-same-length-9 t) (strike-same-length-10 t) (strike-returns-4 t)) λ t. strike-free-lts.spec (strike-free-calls t) (strike-free-at t) strike-free.Post strike-free-Inv-loop strike-free-μ-loop (strike-free-open-block-requires t) (strike-free-loop-holds t) (strike-free-add-loop t) (strike-free-add-b t) (strike-free-open-block-requires-2 t) (strike-free-loop-less t) (strike-free-loop-again t) (strike-free-lowest-requires t) (strike-free-less-requires t) (strike-free-mul-slot t) (strike-free-cast-slot t) (strike-free-add-slot t) (strike-free-is-free-requires t) (strike-free-loop-less-2 t) (strike-free-loop-again-2 t) (strike-free-is-wide-requires t) (strike-free-strike-requires t) (strike-free-is-dead-requires t) (strike-free-same-length t) (strike-free-same-length-2 t) (strike-free-same-length-3 t) (strike-free-returns t) (strike-free-height-requires t) (strike-free-loop-less-3 t) (strike-free-loop-again-3 t) (strike-free-without-value-requires t) (strike-free-thin-requires t) (strike-free-dead-at-requires t) (strike-free-same-length-4 t) (strike-free-same-length-5 t) (strike-free-same-length-6 t) (strike-free-returns-2 t) (strike-free-add-h t) (strike-free-loop-less-4 t) (strike-free-loop-again-4 t) (strike-free-fix-free-requires t) (strike-free-is-dead-requires-2 t) (strike-free-same-length-7 t) (strike-free-same-length-8 t) (strike-free-same-length-9 t) (strike-free-returns-3 t) (strike-free-height-requires-2 t) (strike-free-loop-less-5 t) (strike-free-loop-again-5 t) (strike-free-live-at-requires t) (strike-free-same-length-10 t) (strike-free-same-length-11 t) (strike-free-same-length-12 t) (strike-free-returns-4 t)
