@@ -1,11 +1,13 @@
 /*
- * Times nested_gcc_session against contenders of a comparison bench, on the bench's books and call scripts, and
- * prints a table in markdown; tools/compare builds and runs it. The bench's sources are no part of this repository.
+ * Times sessions against contenders of a comparison bench, on the bench's books and call scripts, and prints a table in
+ * markdown; tools/compare builds and runs it. The bench's sources are no part of this repository.
  *
  *     compare all-in FOLDER NAME..    against the hand-written engines walls and budget
  *     compare kinds FOLDER NAME..     against walls: what the kinds of calls take
+ *     compare search FOLDER NAME..    against walls, and replayed: a search on a kept session
  *     compare gecode FOLDER NAME..    against models in Gecode, in the program built with -DGECODE
  *     compare wrong FOLDER NAME..     no table: status 0 if every contender is found to answer other than expected
+ *     compare wrong-search FOLDER NAME..    no table: status 0 if each searcher is found out by one damaged answer
  *
  * An instance is three files: NAME.book, NAME.calls, and NAME.exp with what is expected: two words a call, then the
  * last masks. A contender that writes anything else ends the program with status 1, and no table is printed. A model
@@ -26,6 +28,11 @@
  *   decisions: its mark is in it, and the backs out of dead ends. Both are summed over the descents. A mark and a
  *   back: those of a list of 256 marks and 256 backs in turn. No clock is read within a session. These figures add up
  *   to less than all-in, since a short script that is run again and again takes less for each call than a long one.
+ * - Search: that of tools/search.hpp, 10,000 nodes from the root, by single calls on a session that was opened before
+ *   the clock runs; the figure is the time of a run over its nodes. `walls` is kept in memory likewise, and reached by one
+ *   function that is not inlined. Replayed is the same search where each node is a session of its own, of the decisions in
+ *   force; it runs 200 nodes. Before and after the rounds each contender searches once more, and all words of its answers
+ *   and all masks after each node are compared with those of `walls`; in the rounds the words are.
  */
 #ifdef GECODE
 #define main gecode_replay_main
@@ -35,6 +42,9 @@
 #include "engines.hpp"
 #endif
 #include "nested_gcc.h"
+#ifndef GECODE
+#include "search.hpp"
+#endif
 #include <cmath>
 #include <cstdarg>
 
@@ -286,13 +296,14 @@ std::vector<Figures> take_turns(Contenders &contenders) {
 
 /* ---- tables ---- */
 
-/* The ratios of a column: their geometric mean and the greatest. */
+/* The ratios of a column: their geometric mean, the greatest and the least. */
 struct Column {
-    double logs = 0, greatest = 0;
+    double logs = 0, greatest = 0, least = 1e18;
     size_t count = 0;
     double add(double ratio) {
         logs += std::log(ratio);
         greatest = std::max(greatest, ratio);
+        least = std::min(least, ratio);
         count++;
         return ratio;
     }
@@ -503,6 +514,163 @@ void kinds_table(const std::vector<Instance> &instances) {
     rows.print();
 }
 
+/* ---- search ---- */
+
+const size_t NODES = 10000;
+const size_t NODES_REPLAYED = 200;
+
+struct Kept {
+    nested_gcc_state state;
+    explicit Kept(const Instance &in) {
+        if (nested_gcc_open(in.book.data(), in.book.size(), &state) != NESTED_GCC_LIVE)
+            fail("%s: the session does not open live", in.name.c_str());
+    }
+    Ans call(u8 kind, u8 type, u16 slot) {
+        u32 words[2];
+        nested_gcc_call(&state, kind, type, slot, words);
+        return { words[0], words[1] };
+    }
+    u32 mask(size_t slot) const { return state.masks[slot]; }
+};
+
+struct KeptWalls {
+    Walls walls;
+    explicit KeptWalls(const Instance &in) {
+        Book book;
+        if (read_book(in.book.data(), in.book.size(), book) || !walls.open(book))
+            fail("%s: walls does not open", in.name.c_str());
+    }
+    __attribute__((noinline)) Ans call(u8 kind, u8 type, u16 slot) {
+        return one_call(walls, Call{ kind, type, slot });
+    }
+    u32 mask(size_t slot) const { return walls.mask[slot]; }
+};
+
+/* Runs the decisions in force anew at each node. */
+struct Replayed {
+    const Instance &in;
+    Bytes calls, answers, masks, root;
+    std::vector<size_t> marks;
+    explicit Replayed(const Instance &instance) : in(instance), masks(4 * in.slots), root(opening_masks(in)) {}
+    Ans mark() {
+        if (marks.empty()) masks = root;
+        marks.push_back(calls.size());
+        return { NESTED_GCC_CALL_DONE, 0 };
+    }
+    Ans back() {
+        calls.resize(marks.back());
+        marks.pop_back();
+        return { NESTED_GCC_CALL_DONE, 0 };
+    }
+    Ans decide(u8 kind, u8 type, u16 slot) {
+        size_t before = calls.size();
+        for (u8 byte : { kind, type, (u8)(slot % 256), (u8)(slot / 256) }) calls.push_back(byte);
+        answers.resize(2 * calls.size());
+        u32 opened = nested_gcc_session(in.book.data(), in.book.size(), calls.data(), calls.size(), answers.data(),
+                                        answers.size(), masks.data(), masks.size());
+        if (opened != NESTED_GCC_LIVE) fail("%s: a replayed session answers %u", in.name.c_str(), opened);
+        Ans answer{ g32(&answers[2 * before]), g32(&answers[2 * before + 4]) };
+        if (answer.a != NESTED_GCC_CALL_LIVE) calls.resize(before);
+        return answer;
+    }
+    Ans call(u8 kind, u8 type, u16 slot) { return kind == MARK ? mark() : kind == BACK ? back() : decide(kind, type, slot); }
+    u32 mask(size_t slot) const { return g32(&masks[4 * slot]); }
+};
+
+/* Another searcher, one of whose answers is damaged. */
+template <class Searcher> struct Damaged : Searcher {
+    size_t made = 0;
+    using Searcher::Searcher;
+    Ans call(u8 kind, u8 type, u16 slot) {
+        Ans answer = Searcher::call(kind, type, slot);
+        if (++made == 101) answer.b ^= 1;
+        return answer;
+    }
+};
+
+bool same(const Seen &one, const Seen &other) {
+    return !one.refused && !other.refused && one.words == other.words && one.masks == other.masks;
+}
+
+/* A searcher on an instance, what `walls` meets in as many nodes, and the figures of the rounds, in nanoseconds. */
+template <class Searcher> struct Searches {
+    const Instance &in;
+    size_t nodes;
+    std::unique_ptr<Searcher> searcher;
+    Seen expected;
+    Times times;
+    Searches(const Instance &instance, size_t count)
+        : in(instance), nodes(count), searcher(std::make_unique<Searcher>(in)),
+          expected(search<true>(*std::make_unique<KeptWalls>(in), in.slots, nodes)) {}
+    bool right() { return same(search<true>(*searcher, in.slots, nodes), expected); }
+    void check(const char *name) {
+        if (!right()) fail("%s: %s does not search as walls does", in.name.c_str(), name);
+    }
+    void round() {
+        double begin = cpu_ns();
+        Seen seen = search<false>(*searcher, in.slots, nodes);
+        times.push_back((cpu_ns() - begin) / nodes);
+        if (seen.refused || seen.words != expected.words) fail("%s: a timed search differs", in.name.c_str());
+    }
+};
+
+struct SearchFigures {
+    Searches<Kept> kept;
+    Searches<KeptWalls> walls;
+    Searches<Replayed> replayed;
+    explicit SearchFigures(const Instance &in) : kept(in, NODES), walls(in, NODES), replayed(in, NODES_REPLAYED) {}
+    void check() {
+        kept.check("the kept session");
+        walls.check("walls");
+        replayed.check("the replayed session");
+    }
+    void take_turns() {
+        double begin = cpu_ns();
+        for (size_t round = 0; round < ROUNDS || cpu_ns() - begin < ROUNDS_NS; round++) {
+            for (size_t turn = 0; turn < 3; turn++) {
+                size_t at = (round + turn) % 3;
+                if (at == 0) kept.round();
+                if (at == 1) walls.round();
+                if (at == 2) replayed.round();
+            }
+        }
+    }
+};
+
+void search_table(const std::vector<Instance> &instances) {
+    Rows rows;
+    Column walls, replayed;
+    rows.add("| Instance | kept / walls | replayed / kept | kept, ns a node | rounds |\n|---|---|---|---|---|\n");
+    for (auto &instance : instances) {
+        fprintf(stderr, "compare: %s, search\n", instance.name.c_str());
+        SearchFigures figures(instance);
+        figures.check();
+        figures.take_turns();
+        figures.check();
+        double kept = middle(figures.kept.times);
+        rows.add("| %s | %.2f | %.0f | %.0f | %zu |\n", instance.name.c_str(), walls.add(kept / middle(figures.walls.times)),
+                 replayed.add(middle(figures.replayed.times) / kept), kept, figures.kept.times.size());
+        for (auto times : { &figures.kept.times, &figures.walls.times, &figures.replayed.times }) rows.taken_from(*times);
+    }
+    rows.add("| geometric mean | %.2f | %.0f | | |\n", walls.mean(), replayed.mean());
+    rows.add("| worst | %.2f | %.0f | | |\n", walls.greatest, replayed.least);
+    rows.print();
+}
+
+/* Each searcher passes, and is found out when one of its answers is damaged. */
+template <class Searcher> void find_out_search(const Instance &in, size_t nodes, const char *name) {
+    Searches<Searcher>(in, nodes).check(name);
+    if (Searches<Damaged<Searcher>>(in, nodes).right()) fail("%s: %s passes with a damaged answer", in.name.c_str(), name);
+}
+
+void find_out_searches(const std::vector<Instance> &instances) {
+    for (auto &instance : instances) {
+        find_out_search<Kept>(instance, NODES, "the kept session");
+        find_out_search<KeptWalls>(instance, NODES, "walls");
+        find_out_search<Replayed>(instance, NODES_REPLAYED, "the replayed session");
+    }
+}
+
 #endif
 
 int run(int count, char **words) {
@@ -516,6 +684,8 @@ int run(int count, char **words) {
 #else
     if (table == "all-in") return all_in_table(instances), 0;
     if (table == "kinds") return kinds_table(instances), 0;
+    if (table == "search") return search_table(instances), 0;
+    if (table == "wrong-search") return find_out_searches(instances), 0;
 #endif
     fail("no table %s", table.c_str());
 }
