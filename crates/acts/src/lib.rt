@@ -10,11 +10,12 @@ pub use act::walls;
 pub use flags::is_dead;
 pub use flags::is_shut;
 
-// How a session stands: opened dead, live, or dead since the call of that number, counted from 0.
+// How a session stands: live, dead since the call of that number, counted from 0, or opened dead. The order is that of the numbers which stand for them in
+// the record of a kept session.
 pub enum Standing {
-    OpenedDead,
     Live,
     Dead(usize),
+    OpenedDead,
 }
 
 pub struct Session {
