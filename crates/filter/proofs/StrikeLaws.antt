@@ -91,6 +91,11 @@ module _ {n k : ℕ} {m c t : List ℕ} {top v x a w y b : ℕ} where
     follow-low b≡0 low =
         rw b≡0 (filtered-asks (λ N cuts. cuts .low) (filtered-goal low (λ live settled. record { low = settled; high = settled-from-none m′ w y 0 zero-le })))
 
+    pub follow-closed : {r : Outcome} → SettledFrom m′ w y b → Filtered n k (BoundCut true m v a) (λ M. SettledFrom M v x a) m c t top m′ c′ t′ r
+        → Filtered n k (Cuts m v a w b) (Followed v x a w y b) m c t top m′ c′ t′ r
+    follow-closed closed low =
+        filtered-asks (λ N cuts. cuts .low) (filtered-goal low (λ live settled. record { low = settled; high = closed }))
+
     pub follow-dead : {r : Outcome} {dead : Bool} → dead ≡ isDead r → dead ≡ true
         → Filtered n k (BoundCut true m v a) (λ M. SettledFrom M v x a) m c t top m′ c′ t′ r
         → Filtered n k (Cuts m v a w b) (Followed v x a w y b) m c t top m′ c′ t′ r

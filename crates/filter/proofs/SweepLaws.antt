@@ -1,6 +1,6 @@
 -- What the loops of `fix_free` and `strike_free` have passed when they are at the block b, of which the slots in x are left (`Swept`): the start of
 -- a block (`swept-first`, `swept-block`), one slot more (`swept-slot`, `swept-cut`), the end (`swept-end`). A slot that is not in the set of open slots is
--- settled (`few-settled`). No contract cites this file. Assumes nothing.
+-- settled (`few-settled`, `closed-settled`). No contract cites this file. Assumes nothing.
 use mathlib.Core.Path.{_≡_, sym, _∙_}
 use mathlib.Core.Bool.{Bool, true, false}
 use mathlib.Core.Logic.{dite}
@@ -17,7 +17,7 @@ use Rattle.domains.proofs.MaskLaws.{testBit-empty, testBit-clearBit-other, test
 use Rattle.settling_model.proofs.SettledLaws.{lacks-not-has}
 use Rattle.filter_model.specs.Cuts.{SlotCut}
 use Rattle.filter_model.specs.Mirror.{SettledAt, SettledFrom}
-use Rattle.filter_model.specs.Open.{OpenSlots, BlockAsked, OpenBlock}
+use Rattle.filter_model.specs.Open.{openBit, OpenSlots, BlockAsked, OpenBlock}
 use Rattle.filter_model.specs.State.{World, Pruning}
 use Rattle.filter_model.proofs.MirrorLaws.{settled-at-subset}
 use Rattle.filter_model.proofs.StoreLaws.{single-has-fixed}
@@ -63,6 +63,15 @@ few-settled : (m v : ℕ) → (1 < ones m → ⊥) → Has m v → Fixed m v
 few-settled m v few has =
     let one : ones m ≡ 1 = omega (arith, few, ones-clearBit m v, has) in
     single-has-fixed m v one has
+
+-- no slot from the start on before the end is in the set of open slots
+pub closed-settled : {n k : ℕ} {M cells : List ℕ} {v start end : ℕ} → end ≤ n → OpenSlots n k M cells
+    → ((s : ℕ) → start ≤ s → s < end → openBit n k cells s ≡ 0) → SettledFrom M v start end
+closed-settled {M = M} {v = v} end≤n opens closed =
+    record {
+      each = λ s start≤s s<end.
+          few-settled (getD M s 0) v (λ many. omega (arith, opens .each s (omega arith) many, closed s start≤s s<end));
+    }
 
 -- a slot that is cut as a met bound asks
 cut-settled : (kind : Bool) (M : List ℕ) (v s : ℕ) → SlotCut kind s v M → SettledAt M s v

@@ -116,6 +116,9 @@ fn follow(
     if b == 0 {
         return p;
     }
+    if !slots::any_open(cells, n, k, y, b) {
+        return p;
+    }
     strike_free(masks, cells, trail, n, k, height(p), w, y, b)
 }
 

@@ -1,5 +1,5 @@
 -- The laws of `OpenBlock` of filter_model's `specs/Open.antt`: an end before the block (`block-none`), and its two words as one (`words-bit`), which
--- have no bit (`block-empty`), or are cut before the start (`from-bits`) and from the end on (`word-bits`, `before-bits`), which is `block-bits`.
+-- have no bit (`block-closed`, `block-empty`), or are cut before the start (`from-bits`) and from the end on (`word-bits`, `before-bits`), which is `block-bits`.
 -- No contract cites this file. Assumes nothing.
 use mathlib.Core.Path.{_≡_, refl, sym, ap, _∙_}
 use mathlib.Core.Logic.{dite}
@@ -69,6 +69,10 @@ module _ (n k : ℕ) (cells : List ℕ) (b start end : ℕ) where
       let second : wordAt n k s ≡ wordsAt n k + 2 * b + 1 = omega arith in
       let bit : s % 16 ≡ s - 32 * b - 16 = omega arith in
       rw (second, bit) (sym (testBit-words-high low high (s - 32 * b) low<65536 (omega arith))))
+
+  pub block-closed : {x : ℕ} → (x ≡ low + 65536 * high) × (low < 65536) → x ≡ 0 → (s : ℕ) → s / 32 ≡ b → openBit n k cells s ≡ 0
+  block-closed word empty s here =
+      words-bit s (word .1) here ∙ ap (λ (m : ℕ). testBit m (s - 32 * b)) (sym (word .0) ∙ empty) ∙ testBit-empty (s - 32 * b)
 
   pub block-empty : {x : ℕ} → (x ≡ low + 65536 * high) × (low < 65536) → x ≡ 0 → OpenBlock n k cells b start end 0
   block-empty {x} word empty =

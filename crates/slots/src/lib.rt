@@ -1,12 +1,13 @@
 // What the filter reads of the slots: the values that one has, and which are open, 32 at a time. Nothing is refused here. The contracts cite
 // `specs/Values.antt` and the definitions of domains and filter_model.
 ghost use mathlib.Core.Path.{_≡_};
+ghost use mathlib.Core.Bool.{false};
 ghost use Prim.Native.Nat.{ℕ, _+_, _*_, _-_, _<_, _≤_};
 ghost use lib.Dec.{eqb, ltb};
 ghost use lib.Count.{ones};
 ghost use lib.ListN.{length, getD};
 ghost use Rattle.domains.specs.Mask.{testBit, Has, clearBit};
-ghost use Rattle.filter_model.specs.Open.{wordsAt, BlockAsked, OpenBlock};
+ghost use Rattle.filter_model.specs.Open.{wordsAt, cellsSize, openBit, BlockAsked, OpenBlock};
 ghost use Rattle.slots.specs.Values.{Free, OtherValues};
 
 // Whether the slot has value v.
@@ -70,6 +71,21 @@ pub fn open_block(cells: &[u16], n: usize, k: u32, b: usize, start: usize, end: 
         return 0u32;
     }
     bits_before(bits_from(x, 32 * b, start), 32 * b, end)
+}
+
+// Whether a block has an open slot, of those from `start` on before `end`: where none has, no slot from `start` on before `end` is open.
+pub fn any_open(cells: &[u16], n: usize, k: u32, start: usize, end: usize) -> bool
+    requires { ⌜ (cellsSize n k ≤ length (now cells)) × (n ≤ 256) × (k ≤ 32) × (end ≤ n) ⌝ }
+    ensures { λ r. ⌜ (r ≡ false → (s : ℕ) → start ≤ s → s < end → openBit n k (now (cells .entry)) s ≡ 0) ⌝ }
+{
+    let mut b = start / 32;
+    while b < (end + 31) / 32 {
+        if word(cells, n, k, b) != 0 {
+            return true;
+        }
+        b += 1;
+    }
+    false
 }
 
 // The two words of block b of the set of open slots, as one.

@@ -25,11 +25,11 @@ use Rattle.filter.specs.Filtered.{Filtered}
 use Rattle.outcomes.specs.declared.Outcome.the-variants.{Live}
 use Rattle.filter.proofs.FilteredLaws.{filtered-at, filtered-live, filtered-refl, filtered-more, filtered-stop, filtered-goal}
 use Rattle.filter.proofs.LoopLaws.{Other, other-of, other-has, other-value, other-cut, other-none, total-less}
-use Rattle.filter.proofs.SweepLaws.{block-asked}
+use Rattle.filter.proofs.SweepLaws.{block-asked, closed-settled}
 use Rattle.filter.proofs.TurnLaws.{FreeInv, turn-first, turn-world, turn-end, turn-asked, turn-block}
 use Rattle.filter.proofs.TurnLaws.{turn-slot, turn-ready, turn-less, turn-settled, turn-cut, turn-dead}
 use Rattle.filter.proofs.StrikeLaws.{strike-absent, strike-contradicted, strike-last, strike-followed}
-use Rattle.filter.proofs.StrikeLaws.{fix-absent, follow-none, follow-high, follow-low, follow-dead, follow-both, thin-quiet, thin-followed}
+use Rattle.filter.proofs.StrikeLaws.{fix-absent, follow-none, follow-high, follow-low, follow-closed, follow-dead, follow-both, thin-quiet, thin-followed}
 use borrow.Fn.Kinds.{In}
 use borrow.Fn.PlainCycle.{Measures, is, falls, and}
 use Rattle.filter.proofs.fix.Reads as fix
@@ -56,6 +56,7 @@ use Rattle.outcomes.proofs.dead_at.Reads as dead-at-reads
 use Rattle.outcomes.proofs.height.Reads as height-reads
 use Rattle.outcomes.proofs.is_dead.Reads as is-dead-reads
 use Rattle.outcomes.proofs.live_at.Reads as live-at-reads
+use Rattle.slots.proofs.any_open.Reads as any-open-reads
 use Rattle.slots.proofs.has_value.Reads as has-value-reads
 use Rattle.slots.proofs.is_free.Reads as is-free-reads
 use Rattle.slots.proofs.is_wide.Reads as is-wide-reads
@@ -124,7 +125,7 @@ abbrev fix-free-calls : ℕ → fix-free-lts.Claims
 fix-free-calls t = (open-block-reads.Asked, open-block-reads.Learnt, lowest-reads.Asked, lowest-reads.Learnt, less-reads.Asked, less-reads.Learnt, other-values-reads.Asked, other-values-reads.Learnt, is-single-reads.Asked, is-single-reads.Learnt, strike-below t, strike.Post, is-dead-reads.Asked, is-dead-reads.Learnt, height-reads.Asked, height-reads.Learnt, fix-below t, fix.Post, live-at-reads.Asked, live-at-reads.Learnt)
 
 abbrev follow-calls : ℕ → follow-lts.Claims
-follow-calls t = (strike-free-below t, strike-free.Post, fix-free-below t, fix-free.Post, is-dead-reads.Asked, is-dead-reads.Learnt, height-reads.Asked, height-reads.Learnt)
+follow-calls t = (strike-free-below t, strike-free.Post, fix-free-below t, fix-free.Post, is-dead-reads.Asked, is-dead-reads.Learnt, any-open-reads.Asked, any-open-reads.Learnt, height-reads.Asked, height-reads.Learnt)
 
 abbrev fix-calls : ℕ → fix-lts.Claims
 fix-calls t = (other-values-reads.Asked, other-values-reads.Learnt, count-reads.Asked, count-reads.Learnt, lowest-reads.Asked, lowest-reads.Learnt, less-reads.Asked, less-reads.Learnt, with-reads.Asked, with-reads.Learnt, thin-reads.Asked, thin-reads.Learnt, dead-at-reads.Asked, dead-at-reads.Learnt, fix-free-below t, fix-free.Post, is-dead-reads.Asked, is-dead-reads.Learnt, height-reads.Asked, height-reads.Learnt, strike-below t, strike.Post, has-value-reads.Asked, has-value-reads.Learnt, live-at-reads.Asked, live-at-reads.Learnt)
@@ -545,21 +546,34 @@ follow-returns-2 t c = follow-dead (c .before .is-dead .ensures) (c .if2 .taken)
 follow-returns-3 : (t : ℕ) → follow-lts.Need-returns-3 (follow-calls t) (follow-at t) follow.Post
 follow-returns-3 t c = follow-low (c .if3 .taken) (c .before .before .before .before .before .before .before .before .before .fix-free .ensures)
 
+follow-any-open-requires : (t : ℕ) → follow-lts.Need-any-open-requires (follow-calls t) (follow-at t) follow.Post
+follow-any-open-requires t c κs =
+    let pre = c .before .before .before .before .before .before .before .before .before .before .before .before .before .before .before .before .before .before .pre .1 in
+    let world = world-moved (pre .0 .world) (c .before .before .before .before .before .before .before .before .before .before .fix-free .ensures .moved) in
+    (world .rows, world .slots-fit, world .values-fit, pre .1 .end-in)
+
+follow-returns-4 : (t : ℕ) → follow-lts.Need-returns-4 (follow-calls t) (follow-at t) follow.Post
+follow-returns-4 t c =
+    let pre = c .before .before .before .before .before .before .before .before .before .before .before .before .before .before .before .before .before .before .before .before .pre .1 in
+    let low = c .before .before .before .before .before .before .before .before .before .before .before .before .fix-free .ensures in
+    follow-closed (closed-settled (pre .1 .end-in) (low .moved .opens (pre .0 .opens)) (c .before .any-open .ensures (not-true _ (c .if4 .taken)))) low
+
 follow-height-requires : (t : ℕ) → follow-lts.Need-height-requires (follow-calls t) (follow-at t) follow.Post
 follow-height-requires t c κs = search needs
 
 follow-strike-free-requires-2 : (t : ℕ) → follow-lts.Need-strike-free-requires-2 (follow-calls t) (follow-at t) follow.Post
 follow-strike-free-requires-2 t c κs =
-    let pre = c .before .before .before .before .before .before .before .before .before .before .before .before .before .before .before .before .before .before .before .before .before .pre in
-    let low = filtered-live (c .before .before .before .before .before .before .is-dead .ensures) (c .before .before .before .before .before .if2 .left) (c .height .ensures) (c .before .before .before .before .before .before .before .before .before .before .before .before .before .fix-free .ensures) in (
+    let pre = c .before .before .before .before .before .before .before .before .before .before .before .before .before .before .before .before .before .before .before .before .before .before .before .before .pre in
+    let low = filtered-live (c .before .before .before .before .before .before .before .before .before .is-dead .ensures) (c .before .before .before .before .before .before .before .before .if2 .left) (c .height .ensures) (c .before .before .before .before .before .before .before .before .before .before .before .before .before .before .before .before .fix-free .ensures) in (
       omega (arith, total-less (low .moved .within), pre .0),
       record { world = world-moved (pre .1 .0 .world) (low .moved); opens = low .moved .opens (pre .1 .0 .opens); end-in = pre .1 .1 .end-in; value-in = pre .1 .1 .value-in },
     )
 
-follow-returns-4 : (t : ℕ) → follow-lts.Need-returns-4 (follow-calls t) (follow-at t) follow.Post
-follow-returns-4 t c =
-    let pre = c .before .before .before .before .before .before .before .before .before .before .before .before .before .before .before .before .before .before .before .before .before .before .before .before .before .before .before .before .pre in
-    follow-both (pre .1 .0 .world .alive) (filtered-live (c .before .before .before .before .before .before .before .before .before .before .before .before .before .is-dead .ensures) (c .before .before .before .before .before .before .before .before .before .before .before .before .if2 .left) (c .before .before .before .before .before .before .before .height .ensures) (c .before .before .before .before .before .before .before .before .before .before .before .before .before .before .before .before .before .before .before .before .fix-free .ensures)) (c .before .before .before .before .before .before .strike-free2 .ensures)
+follow-returns-5 : (t : ℕ) → follow-lts.Need-returns-5 (follow-calls t) (follow-at t) follow.Post
+follow-returns-5 t c =
+    let pre = c .before .before .before .before .before .before .before .before .before .before .before .before .before .before .before .before .before .before .before .before .before .before .before .before .before .before .before .before .before .before .before .pre in
+    follow-both (pre .1 .0 .world .alive) (filtered-live (c .before .before .before .before .before .before .before .before .before .before .before .before .before .before .before .before .is-dead .ensures) (c .before .before .before .before .before .before .before .before .before .before .before .before .before .before .before .if2 .left) (c .before .before .before .before .before .before .before .height .ensures) (c .before .before .before .before .before .before .before .before .before .before .before .before .before .before .before .before .before .before .before .before .before .before .before .fix-free .ensures))
+    (c .before .before .before .before .before .before .strike-free2 .ensures)
 
 strike-has-value-requires : (t : ℕ) → strike-lts.Need-has-value-requires (strike-calls t) (strike-at t) strike.Post
 strike-has-value-requires t c κs =
@@ -920,6 +934,15 @@ follow-same-length-11 t c = follow-returns-4 t c .moved .cells-size
 follow-same-length-12 : (t : ℕ) → follow-lts.Need-same-length-12 (follow-calls t) (follow-at t) follow.Post
 follow-same-length-12 t c = follow-returns-4 t c .moved .trailed .size
 
+follow-same-length-13 : (t : ℕ) → follow-lts.Need-same-length-13 (follow-calls t) (follow-at t) follow.Post
+follow-same-length-13 t c = follow-returns-5 t c .moved .within .len
+
+follow-same-length-14 : (t : ℕ) → follow-lts.Need-same-length-14 (follow-calls t) (follow-at t) follow.Post
+follow-same-length-14 t c = follow-returns-5 t c .moved .cells-size
+
+follow-same-length-15 : (t : ℕ) → follow-lts.Need-same-length-15 (follow-calls t) (follow-at t) follow.Post
+follow-same-length-15 t c = follow-returns-5 t c .moved .trailed .size
+
 strike-same-length : (t : ℕ) → strike-lts.Need-same-length (strike-calls t) (strike-at t) strike.Post
 strike-same-length t c = search needs
 
@@ -987,4 +1010,4 @@ strike-free-same-length-12 : (t : ℕ) → strike-free-lts.Need-same-length-12 (
 strike-free-same-length-12 t c = strike-free-returns-4 t c .moved .trailed .size
 
 pub +fix+fix-free+follow+strike+strike-free-spec : {M : Type 1} → statement M
-+fix+fix-free+follow+strike+strike-free-spec = close μ-fix μ-fix-free μ-follow μ-strike μ-strike-free (λ t. fix-lts.spec (fix-calls t) (fix-at t) fix.Post fix-Inv-loop fix-μ-loop (fix-other-values-requires t) (fix-loop-holds t) (fix-count-requires t) (fix-lowest-requires t) (fix-less-requires t) (fix-with-requires t) (fix-thin-requires t) (fix-dead-at-requires t) (fix-same-length t) (fix-same-length-2 t) (fix-same-length-3 t) (fix-returns t) (fix-add-h t) (fix-loop-less t) (fix-loop-again t) (fix-fix-free-requires t) (fix-is-dead-requires t) (fix-same-length-4 t) (fix-same-length-5 t) (fix-same-length-6 t) (fix-returns-2 t) (fix-height-requires t) (fix-other-values-requires-2 t) (fix-loop-less-2 t) (fix-loop-again-2 t) (fix-lowest-requires-2 t) (fix-strike-requires t) (fix-same-length-7 t) (fix-same-length-8 t) (fix-same-length-9 t) (fix-returns-3 t) (fix-has-value-requires t) (fix-dead-at-requires-2 t) (fix-same-length-10 t) (fix-same-length-11 t) (fix-same-length-12 t) (fix-returns-4 t) (fix-live-at-requires t) (fix-same-length-13 t) (fix-same-length-14 t) (fix-same-length-15 t) (fix-returns-5 t)) (λ t. fix-free-lts.spec (fix-free-calls t) (fix-free-at t) fix-free.Post fix-free-Inv-loop fix-free-μ-loop (fix-free-open-block-requires t) (fix-free-loop-holds t) (fix-free-add-loop t) (fix-free-add-b t) (fix-free-open-block-requires-2 t) (fix-free-loop-less t) (fix-free-loop-again t) (fix-free-lowest-requires t) (fix-free-less-requires t) (fix-free-mul-s t) (fix-free-cast-s t) (fix-free-add-s t) (fix-free-other-values-requires t) (fix-free-loop-less-2 t) (fix-free-loop-again-2 t) (fix-free-is-single-requires t) (fix-free-lowest-requires-2 t) (fix-free-strike-requires t) (fix-free-is-dead-requires t) (fix-free-same-length t) (fix-free-same-length-2 t) (fix-free-same-length-3 t) (fix-free-returns t) (fix-free-height-requires t) (fix-free-loop-less-3 t) (fix-free-loop-again-3 t) (fix-free-fix-requires t) (fix-free-is-dead-requires-2 t) (fix-free-same-length-4 t) (fix-free-same-length-5 t) (fix-free-same-length-6 t) (fix-free-returns-2 t) (fix-free-height-requires-2 t) (fix-free-loop-less-4 t) (fix-free-loop-again-4 t) (fix-free-live-at-requires t) (fix-free-same-length-7 t) (fix-free-same-length-8 t) (fix-free-same-length-9 t) (fix-free-returns-3 t)) (λ t. follow-lts.spec (follow-calls t) (follow-at t) follow.Post (follow-strike-free-requires t) (follow-same-length t) (follow-same-length-2 t) (follow-same-length-3 t) (follow-returns t) (follow-fix-free-requires t) (follow-is-dead-requires t) (follow-same-length-4 t) (follow-same-length-5 t) (follow-same-length-6 t) (follow-returns-2 t) (follow-same-length-7 t) (follow-same-length-8 t) (follow-same-length-9 t) (follow-returns-3 t) (follow-height-requires t) (follow-strike-free-requires-2 t) (follow-same-length-10 t) (follow-same-length-11 t) (follow-same-length-12 t) (follow-returns-4 t)) (λ t. strike-lts.spec (strike-calls t) (strike-at t) strike.Post (strike-has-value-requires t) (strike-live-at-requires t) (strike-same-length t) (strike-returns t) (strike-strike-one-requires t) (strike-enum-known-o t) (strike-enum-told t) (strike-dead-at-requires t) (strike-same-length-2 t) (strike-same-length-3 t) (strike-same-length-4 t) (strike-returns-2 t) (strike-add-live-at t) (strike-live-at-requires-2 t) (strike-same-length-5 t) (strike-same-length-6 t) (strike-same-length-7 t) (strike-returns-3 t) (strike-add-follow t) (strike-follow-requires t) (strike-same-length-8 t) (strike-same-length-9 t) (strike-same-length-10 t) (strike-returns-4 t)) λ t. strike-free-lts.spec (strike-free-calls t) (strike-free-at t) strike-free.Post strike-free-Inv-loop strike-free-μ-loop (strike-free-open-block-requires t) (strike-free-loop-holds t) (strike-free-add-loop t) (strike-free-add-b t) (strike-free-open-block-requires-2 t) (strike-free-loop-less t) (strike-free-loop-again t) (strike-free-lowest-requires t) (strike-free-less-requires t) (strike-free-mul-slot t) (strike-free-cast-slot t) (strike-free-add-slot t) (strike-free-is-free-requires t) (strike-free-loop-less-2 t) (strike-free-loop-again-2 t) (strike-free-is-wide-requires t) (strike-free-strike-requires t) (strike-free-is-dead-requires t) (strike-free-same-length t) (strike-free-same-length-2 t) (strike-free-same-length-3 t) (strike-free-returns t) (strike-free-height-requires t) (strike-free-loop-less-3 t) (strike-free-loop-again-3 t) (strike-free-without-value-requires t) (strike-free-thin-requires t) (strike-free-dead-at-requires t) (strike-free-same-length-4 t) (strike-free-same-length-5 t) (strike-free-same-length-6 t) (strike-free-returns-2 t) (strike-free-add-h t) (strike-free-loop-less-4 t) (strike-free-loop-again-4 t) (strike-free-fix-free-requires t) (strike-free-is-dead-requires-2 t) (strike-free-same-length-7 t) (strike-free-same-length-8 t) (strike-free-same-length-9 t) (strike-free-returns-3 t) (strike-free-height-requires-2 t) (strike-free-loop-less-5 t) (strike-free-loop-again-5 t) (strike-free-live-at-requires t) (strike-free-same-length-10 t) (strike-free-same-length-11 t) (strike-free-same-length-12 t) (strike-free-returns-4 t)
++fix+fix-free+follow+strike+strike-free-spec = close μ-fix μ-fix-free μ-follow μ-strike μ-strike-free (λ t. fix-lts.spec (fix-calls t) (fix-at t) fix.Post fix-Inv-loop fix-μ-loop (fix-other-values-requires t) (fix-loop-holds t) (fix-count-requires t) (fix-lowest-requires t) (fix-less-requires t) (fix-with-requires t) (fix-thin-requires t) (fix-dead-at-requires t) (fix-same-length t) (fix-same-length-2 t) (fix-same-length-3 t) (fix-returns t) (fix-add-h t) (fix-loop-less t) (fix-loop-again t) (fix-fix-free-requires t) (fix-is-dead-requires t) (fix-same-length-4 t) (fix-same-length-5 t) (fix-same-length-6 t) (fix-returns-2 t) (fix-height-requires t) (fix-other-values-requires-2 t) (fix-loop-less-2 t) (fix-loop-again-2 t) (fix-lowest-requires-2 t) (fix-strike-requires t) (fix-same-length-7 t) (fix-same-length-8 t) (fix-same-length-9 t) (fix-returns-3 t) (fix-has-value-requires t) (fix-dead-at-requires-2 t) (fix-same-length-10 t) (fix-same-length-11 t) (fix-same-length-12 t) (fix-returns-4 t) (fix-live-at-requires t) (fix-same-length-13 t) (fix-same-length-14 t) (fix-same-length-15 t) (fix-returns-5 t)) (λ t. fix-free-lts.spec (fix-free-calls t) (fix-free-at t) fix-free.Post fix-free-Inv-loop fix-free-μ-loop (fix-free-open-block-requires t) (fix-free-loop-holds t) (fix-free-add-loop t) (fix-free-add-b t) (fix-free-open-block-requires-2 t) (fix-free-loop-less t) (fix-free-loop-again t) (fix-free-lowest-requires t) (fix-free-less-requires t) (fix-free-mul-s t) (fix-free-cast-s t) (fix-free-add-s t) (fix-free-other-values-requires t) (fix-free-loop-less-2 t) (fix-free-loop-again-2 t) (fix-free-is-single-requires t) (fix-free-lowest-requires-2 t) (fix-free-strike-requires t) (fix-free-is-dead-requires t) (fix-free-same-length t) (fix-free-same-length-2 t) (fix-free-same-length-3 t) (fix-free-returns t) (fix-free-height-requires t) (fix-free-loop-less-3 t) (fix-free-loop-again-3 t) (fix-free-fix-requires t) (fix-free-is-dead-requires-2 t) (fix-free-same-length-4 t) (fix-free-same-length-5 t) (fix-free-same-length-6 t) (fix-free-returns-2 t) (fix-free-height-requires-2 t) (fix-free-loop-less-4 t) (fix-free-loop-again-4 t) (fix-free-live-at-requires t) (fix-free-same-length-7 t) (fix-free-same-length-8 t) (fix-free-same-length-9 t) (fix-free-returns-3 t)) (λ t. follow-lts.spec (follow-calls t) (follow-at t) follow.Post (follow-strike-free-requires t) (follow-same-length t) (follow-same-length-2 t) (follow-same-length-3 t) (follow-returns t) (follow-fix-free-requires t) (follow-is-dead-requires t) (follow-same-length-4 t) (follow-same-length-5 t) (follow-same-length-6 t) (follow-returns-2 t) (follow-same-length-7 t) (follow-same-length-8 t) (follow-same-length-9 t) (follow-returns-3 t) (follow-any-open-requires t) (follow-same-length-10 t) (follow-same-length-11 t) (follow-same-length-12 t) (follow-returns-4 t) (follow-height-requires t) (follow-strike-free-requires-2 t) (follow-same-length-13 t) (follow-same-length-14 t) (follow-same-length-15 t) (follow-returns-5 t)) (λ t. strike-lts.spec (strike-calls t) (strike-at t) strike.Post (strike-has-value-requires t) (strike-live-at-requires t) (strike-same-length t) (strike-returns t) (strike-strike-one-requires t) (strike-enum-known-o t) (strike-enum-told t) (strike-dead-at-requires t) (strike-same-length-2 t) (strike-same-length-3 t) (strike-same-length-4 t) (strike-returns-2 t) (strike-add-live-at t) (strike-live-at-requires-2 t) (strike-same-length-5 t) (strike-same-length-6 t) (strike-same-length-7 t) (strike-returns-3 t) (strike-add-follow t) (strike-follow-requires t) (strike-same-length-8 t) (strike-same-length-9 t) (strike-same-length-10 t) (strike-returns-4 t)) λ t. strike-free-lts.spec (strike-free-calls t) (strike-free-at t) strike-free.Post strike-free-Inv-loop strike-free-μ-loop (strike-free-open-block-requires t) (strike-free-loop-holds t) (strike-free-add-loop t) (strike-free-add-b t) (strike-free-open-block-requires-2 t) (strike-free-loop-less t) (strike-free-loop-again t) (strike-free-lowest-requires t) (strike-free-less-requires t) (strike-free-mul-slot t) (strike-free-cast-slot t) (strike-free-add-slot t) (strike-free-is-free-requires t) (strike-free-loop-less-2 t) (strike-free-loop-again-2 t) (strike-free-is-wide-requires t) (strike-free-strike-requires t) (strike-free-is-dead-requires t) (strike-free-same-length t) (strike-free-same-length-2 t) (strike-free-same-length-3 t) (strike-free-returns t) (strike-free-height-requires t) (strike-free-loop-less-3 t) (strike-free-loop-again-3 t) (strike-free-without-value-requires t) (strike-free-thin-requires t) (strike-free-dead-at-requires t) (strike-free-same-length-4 t) (strike-free-same-length-5 t) (strike-free-same-length-6 t) (strike-free-returns-2 t) (strike-free-add-h t) (strike-free-loop-less-4 t) (strike-free-loop-again-4 t) (strike-free-fix-free-requires t) (strike-free-is-dead-requires-2 t) (strike-free-same-length-7 t) (strike-free-same-length-8 t) (strike-free-same-length-9 t) (strike-free-returns-3 t) (strike-free-height-requires-2 t) (strike-free-loop-less-5 t) (strike-free-loop-again-5 t) (strike-free-live-at-requires t) (strike-free-same-length-10 t) (strike-free-same-length-11 t) (strike-free-same-length-12 t) (strike-free-returns-4 t)
