@@ -8,7 +8,7 @@ use crate::numbers::session_in;
 use crate::numbers::write_numbers;
 use crate::steps::MOST_CALLS;
 use calls::Call;
-use stepping::step;
+use stepping::step_alone;
 ghost use mathlib.Core.Path.{_≡_};
 ghost use Prim.Native.Nat.{ℕ};
 ghost use Rattle.session_model.specs.Calls.{callOf};
@@ -48,7 +48,7 @@ pub fn call(
         value,
         slot: slot as usize,
     };
-    let stepped = step(
+    let stepped = step_alone(
         &mut masks[..n],
         cells,
         trail,

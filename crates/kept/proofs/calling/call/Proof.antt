@@ -41,18 +41,18 @@ session-in-requires c κs = search needs
 kind-byte-requires : tie.Need-kind-byte-requires
 kind-byte-requires c κs = search needs
 
-slice-relend-prefix-step : tie.Need-slice-relend-prefix-step
-slice-relend-prefix-step c =
+slice-relend-prefix-step-alone : tie.Need-slice-relend-prefix-step-alone
+slice-relend-prefix-step-alone c =
     kept-inside (c .before .before .before .before .before .before .before .before .before .before .before .before .before .before .before .pre .kept)
     (c .before .before .before .before .before .number-at2 .ensures)
 
-slice-aggregate-step : tie.Need-slice-aggregate-step
-slice-aggregate-step c =
+slice-aggregate-step-alone : tie.Need-slice-aggregate-step-alone
+slice-aggregate-step-alone c =
     let start = c .before .before .before .before .before .before .before .before .before .before .before .before .before .before .before .before in
     sym (length-take-le _ _ (kept-inside (start .pre .kept) (c .before .before .before .before .before .before .number-at2 .ensures)))
 
-step-requires : tie.Need-step-requires
-step-requires c κs =
+step-alone-requires : tie.Need-step-alone-requires
+step-alone-requires c κs =
     let read = c .before .before .before .before .before in
     kept-running (read .before .before .before .before .before .before .before .before .before .before .before .before .before .before .pre .kept)
     (read .before .before .before .before .number-at2 .ensures) (read .before .before .number-at3 .ensures) (read .session-in .ensures)
@@ -89,11 +89,11 @@ returns-2 c =
     let lent = start .args .masks .now in
     let n-is = read .before .before .before .before .number-at2 .ensures in
     let kind-is = done .before .before .before .before .before .kind-byte .ensures (start .args .value) (start .args .slot) in
-    let front = overlay-front _ (done .step .last .0) lent (done .step .kept .0 ∙ length-take-le _ _ (kept-inside (start .pre .kept) n-is)) in
+    let front = overlay-front _ (done .step-alone .last .0) lent (done .step-alone .kept .0 ∙ length-take-le _ _ (kept-inside (start .pre .kept) n-is)) in
     rw (← kind-is, front)
     (call-done _ lent (start .args .cells .now) (start .args .trail .now) (start .args .heights .now) (start .args .numbers .now) n-is
-    (read .before .before .number-at3 .ensures) (tested .before .number-at .ensures) (read .session-in .ensures) (tested .if1 .left) (done .step .ensures)
-    (done .step .kept .1 .0) (done .step .kept .1 .1 .0) (done .step .kept .1 .1 .1 .0) (c .before .before .write-numbers .ensures))
+    (read .before .before .number-at3 .ensures) (tested .before .number-at .ensures) (read .session-in .ensures) (tested .if1 .left) (done .step-alone .ensures)
+    (done .step-alone .kept .1 .0) (done .step-alone .kept .1 .1 .0) (done .step-alone .kept .1 .1 .1 .0) (c .before .before .write-numbers .ensures))
 
 pub call-spec : {M : Type 1} → statement M
 call-spec =
@@ -107,9 +107,9 @@ call-spec =
     cast-k
     session-in-requires
     kind-byte-requires
-    slice-relend-prefix-step
-    slice-aggregate-step
-    step-requires
+    slice-relend-prefix-step-alone
+    slice-aggregate-step-alone
+    step-alone-requires
     add-write-numbers
     write-numbers-requires
     same-length-2
