@@ -189,10 +189,10 @@ int main(int count, char **words) {
         Instance in = read_instance(std::string(words[2]) + "/" + words[at]);
         Least least = search ? searches(in, rounds) : scripts(in, rounds);
         double walls = least.decision[TREES];
-        printf("%-14s %5.0f/%4.0f", words[at], walls, search ? 0 : least.opening[TREES] / 1e3);
+        printf(search ? "%-14s %10.0f" : "%-14s %5.0f/%4.0f", words[at], walls, least.opening[TREES] / 1e3);
         for (size_t i = 0; i < TREES; i++) {
             double ratio = least.decision[i] / walls;
-            printf("   %5.2f/%5.2f", ratio, search ? 0 : least.opening[i] / least.opening[TREES]);
+            printf(search ? " %13.2f" : "   %5.2f/%5.2f", ratio, least.opening[i] / least.opening[TREES]);
             logs[i] += std::log(ratio);
             worst[i] = std::max(worst[i], ratio);
         }
