@@ -45,10 +45,10 @@
  *   measured, not proved, by host/nested-gcc/tests/stack.rs, which fails above the figure named there. A thread's
  *   own start takes some 5 KiB more (glibc). The 128 KiB that some C libraries (musl) give a thread by default
  *   are too few: unless it refuses, nested_gcc_session leaves less than 3 of them, and on some books it and
- *   nested_gcc_settle need twice as much. A host gives a thread that calls them 6 MiB, which suffices for every
+ *   nested_gcc_settle need up to twice as much. A host gives a thread that calls them 6 MiB, which suffices for every
  *   book, or 512 KiB if it knows its books (pthread_attr_setstacksize). A kept session needs less: 36 KiB to open
  *   and 2 to step, and more on some books. For it 128 KiB sufficed on each of 1000 random books; the deepest nesting
- *   found needs 202. docs/ASSUMPTIONS.md, "Stack", has the figures in one table.
+ *   found needs 167. docs/ASSUMPTIONS.md, "Stack", has the figures in one table.
  */
 #ifndef NESTED_GCC_H
 #define NESTED_GCC_H
@@ -160,8 +160,8 @@ uint32_t nested_gcc_close(const uint8_t *book, size_t book_len,
  *     is not touched.
  * Bytes past the n elements stay as they are.
  *
- * Stack: 93 KiB on a good book, and up to 672 bytes for each strike that is nested in another. The most of 1000
- * random books of 256 slots was 128 KiB. The deepest nesting found, a chain of 254 strikes, needs 260 KiB in all;
+ * Stack: 93 KiB on a good book, and up to 528 bytes for each strike that is nested in another. The most of 1000
+ * random books of 256 slots was 119 KiB. The deepest nesting found, a chain of 254 strikes, needs 224 KiB in all;
  * 320 KiB is what the test holds. A strike takes a type out of a mask before it goes deeper, so no book nests more
  * than 8192 of them: 6 MiB suffices for every book.
  */
@@ -231,9 +231,9 @@ uint32_t nested_gcc_settle(const uint8_t *book, size_t book_len, uint8_t *masks,
  *     is good.
  * Bytes past the elements written stay as they are.
  *
- * Stack: 126 KiB on a good book, and as for nested_gcc_settle up to 672 bytes for each strike that is nested in
- * another. The most of 1000 random books of 256 slots with lists of decisions was 161 KiB. The deepest nesting found
- * needs 261 KiB in all; 512 KiB is what the test holds, and 6 MiB suffices for every book and list.
+ * Stack: 126 KiB on a good book, and as for nested_gcc_settle up to 528 bytes for each strike that is nested in
+ * another. The most of 1000 random books of 256 slots with lists of decisions was 152 KiB. The deepest nesting found
+ * needs 257 KiB in all; 512 KiB is what the test holds, and 6 MiB suffices for every book and list.
  */
 uint32_t nested_gcc_session(const uint8_t *book, size_t book_len,
                             const uint8_t *calls, size_t calls_len,
@@ -304,8 +304,8 @@ nested_gcc_words nested_gcc_call_in(uint32_t kind, uint32_t type, uint32_t slot,
  * Refusals: 1 to 8. The state is not touched: a session that was open in it goes on.
  * Masks past the n-th stay as they are.
  *
- * Stack: 36 KiB on a good book, and as for nested_gcc_settle up to 672 bytes for each strike that is nested in
- * another. The most of 1000 random books of 256 slots was 71 KiB. The deepest nesting found needs 202 KiB in all; 256
+ * Stack: 36 KiB on a good book, and as for nested_gcc_settle up to 528 bytes for each strike that is nested in
+ * another. The most of 1000 random books of 256 slots was 61 KiB. The deepest nesting found needs 167 KiB in all; 256
  * KiB is what the test holds, and 6 MiB suffices for every book.
  */
 static inline uint32_t nested_gcc_open(const uint8_t *book, size_t book_len, nested_gcc_state *state) {
@@ -329,8 +329,8 @@ static inline uint32_t nested_gcc_open(const uint8_t *book, size_t book_len, nes
  *     Neither state nor answers are touched. A list without calls is good: it says how the session stands.
  * Answers past two words a call, and masks past the n-th, stay as they are.
  *
- * Stack: 2 KiB, and as for nested_gcc_settle up to 672 bytes for each strike that is nested in another. The most of
- * 1000 random books of 256 slots with lists of decisions was 17 KiB. The deepest nesting found needs 169 KiB in all;
+ * Stack: 2 KiB, and as for nested_gcc_settle up to 528 bytes for each strike that is nested in another. The most of
+ * 1000 random books of 256 slots with lists of decisions was 13 KiB. The deepest nesting found needs 133 KiB in all;
  * 256 KiB is what the test holds, and 6 MiB suffices for every book and list.
  */
 static inline uint32_t nested_gcc_step(nested_gcc_state *state, const uint8_t *calls, size_t calls_len,
