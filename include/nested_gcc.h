@@ -101,7 +101,7 @@ uint32_t nested_gcc_version(void);
 #define NESTED_GCC_ROW_END (NESTED_GCC_REFUSED + 7u)          /* end 0 or above n */
 #define NESTED_GCC_ROW_BOUND (NESTED_GCC_REFUSED + 8u)        /* lower above 256; upper above 256, not 65535 */
 #define NESTED_GCC_OUTPUT_TOO_SHORT (NESTED_GCC_REFUSED + 9u) /* an output is too short */
-#define NESTED_GCC_CALL_LIST (NESTED_GCC_REFUSED + 10u)       /* call list not whole calls, or over 16,384 bytes */
+#define NESTED_GCC_CALL_LIST (NESTED_GCC_REFUSED + 10u)       /* call list not whole calls, or too long */
 
 /*
  * Whether the book_len bytes at book are a good book: NESTED_GCC_GOOD, or the refusal that comes first.
@@ -296,8 +296,8 @@ nested_gcc_words nested_gcc_call_in(uint32_t kind, uint32_t type, uint32_t slot,
                                     size_t *record, size_t record_len);
 
 /*
- * Opens a session on a book in the state, as nested_gcc_session opens one. What the state holds before plays no part.
- * The book is not needed afterwards.
+ * Opens a session on a book in the state, as nested_gcc_session opens one. What the state holds before plays no part
+ * in any answer. The book is not needed afterwards.
  *
  * NESTED_GCC_LIVE: opened live. The first n masks are those of nested_gcc_settle.
  * NESTED_GCC_DEAD: opened dead. The first n masks are 0.

@@ -1,11 +1,14 @@
 -- The theorems of `specs/Search.antt`: what a search means (`search-means`), and that its words and masks are those of one session on the whole list
 -- (`search-is-session`), also where a list of bytes was cut into pieces (`cut-list`). What opening, a step and a call promise is what the next step rests on
--- (`search-kept`). No contract cites this file. Assumes nothing.
+-- (`search-kept`); a refused step leaves a search where it was (`search-refused`). No plan is lost (`search-plan-at`, `search-dead-no-plan`,
+-- `open-dead-no-plan`). No contract cites this file. Assumes nothing.
 use mathlib.Core.Path.{_≡_, refl, sym, ap, _∙_, subst}
+use mathlib.Core.Bool.{Bool, true, false}
 use mathlib.Core.List.{List, [], _∷_, _++_, append-nil}
 use mathlib.Core.Option.{Option, none, some}
 use Prim.Native.Nat.{ℕ, zero, suc, _+_, _*_, _/_, _%_, _<_}
 use native.Mathlib.Omega.{arith}
+use lib.Dec.{lit<}
 use lib.ListN.{length, getD, take, length-append}
 use lib.Seq.{take-append-seam, drop-nil}
 use Rattle.book.specs.Layout.{listOf}
@@ -13,7 +16,8 @@ use Rattle.closing.specs.Close.{overlay}
 use Rattle.domains.specs.Masks.{HasAt}
 use Rattle.settling_model.specs.Book.{settledBook, BookPlan}
 use Rattle.settling_model.proofs.BookLaws.{dead-no-plan}
-use Rattle.session_model.specs.BookRun.{stateAfter, repliesOf}
+use Rattle.session_model.specs.BookRun.{stateAfter, repliesOf, standingAfter}
+use Rattle.session_model.specs.Standing.{deadOf}
 use Rattle.session_model.specs.Calls.{Call, decide, callsOf}
 use Rattle.session_model.specs.Demand.{through, answerTo}
 use Rattle.session_model.specs.Machine.{runs, run}
@@ -27,7 +31,7 @@ use Rattle.session_model.proofs.RunLaws.{wordsOf-append, length-wordsOf, first-
 use Rattle.session_fault.specs.Entry.{mostMarks, Outcome, ran, openedWord, sessionGood, unless, answerOf}
 use Rattle.running_model.specs.EngineDemand.{firstWord}
 use Rattle.running_model.proofs.BooksLaws.{represents-engine}
-use Rattle.kept_model.specs.Entries.{mostCalls, openFault, stepFault, laterReplies, OpenEntry, StepEntry, CallEntry, taken}
+use Rattle.kept_model.specs.Entries.{mostCalls, openFault, stepFault, laterReplies, OpenEntry, StepEntry, CallEntry, taken, KeptSteps, deadWord}
 use Rattle.kept_model.specs.Kept.{KeptAt}
 use Rattle.kept_model.specs.Memory.{Memory, sized}
 use Rattle.kept_model.specs.Search.{Search, opened, stepped, called, Pieces, begun, next, frontOf, SearchMeans, SearchPlans, SearchPlanless}
@@ -141,6 +145,33 @@ search-dead-no-plan {b} {past} {ws} searched p plan before rest d at one meets =
     ∙ ap (λ (l : List ℕ). firstWord l before) (sym (search-words searched)) ∙ one in
     demand-dead-no-plan b p plan mostMarks past (demand3 b mostMarks (opens .0) (opens .1) past) before rest d at
     (first-word-unrefused reply (omega (arith, word))) (first-word-dead reply .1 word) meets
+
+-- a book that open answers dead has no plan
+pub open-dead-no-plan : {b : List ℕ} {before at : Memory} → OpenEntry b before 1 at → (p : List ℕ) → BookPlan b p → ⊥
+open-dead-no-plan {b} {before} entry p plan =
+    let opens = plan-opens b p plan in
+    let word : 1 ≡ openedWord (settledBook b) = rw (open-accepted entry (lit< tt)) at (entry .answers) in
+    omega (arith, word ∙ ap openedWord (opens .1))
+
+-- ---- a refused step leaves a search where it was
+dead-word-below : (dead : Bool) → deadWord dead < 256
+dead-word-below true = lit< tt
+dead-word-below false = lit< tt
+
+pub search-refused : {b : List ℕ} {past : List Call} {ws : List ℕ} {before : Memory} → Search b past ws before
+    → {calls A : List ℕ} {answer : ℕ} {A′ : List ℕ} {at : Memory} → KeptSteps calls A before answer A′ at → (answer < 256 → ⊥)
+    → (Search b past ws at) × (A′ ≡ A)
+search-refused {b} {past} {ws} {before} so-far {calls} {A} {answer} {A′} {at} steps refused =
+    go (stepFault (length past) (length calls) (length A)) refl (steps .does b past (search-kept so-far))
+  where
+    go : (x : ℕ) → stepFault (length past) (length calls) (length A) ≡ x → StepEntry b past calls A before answer A′ at → (Search b past ws at) × (A′ ≡ A)
+    go zero is entry =
+        let below = dead-word-below (deadOf (standingAfter b mostMarks (past ++ callsOf calls))) in
+        absurd (refused (subst (λ (m : ℕ). m < 256) (sym (rw is at (entry .ran .answers))) below))
+    go (suc x) is entry =
+        let refusing : stepFault (length past) (length calls) (length A) ≡ 0 → ⊥ = λ nil.
+        (let clash : _≡_ {A = ℕ} 0 (suc x) = sym nil ∙ is in omega (arith, clash)) in
+        (subst (λ (m : Memory). Search b past ws m) (sym (entry .untouched refusing)) so-far, rw is at (entry .ran .words))
 
 -- ---- Pieces
 pub pieces-search : {b bytes ws : List ℕ} {at : Memory} → Pieces b bytes ws at → (length bytes % 4 ≡ 0) × Search b (callsOf bytes) ws at
