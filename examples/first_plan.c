@@ -27,7 +27,7 @@ static int search(void) {
 int main(void) {
     uint32_t slot, type;
     if (nested_gcc_open(book, sizeof book, &state) >= NESTED_GCC_REFUSED || !search()) {
-        printf("no plan\n");
+        printf("refused, or no plan\n");
         return 1;
     }
     printf("plan");

@@ -1,5 +1,7 @@
 // The search of search.c in C++17, which says how it goes and what it counts: the same book, the same plan, the same nodes.
 #include "nested_gcc.h"
+#include <cstddef>
+#include <cstdint>
 #include <array>
 #include <cstdlib>
 #include <iostream>

@@ -27,7 +27,8 @@
  * - There is no premise on the bytes of a book or a list of calls. If they are readable and the outputs writable,
  *   the answer is defined, and follows from the book, the calls and the outputs' lengths alone; that of
  *   nested_gcc_step and nested_gcc_call from the state, the calls and the answers' length. These two have the only
- *   premise: the state is what nested_gcc_open, nested_gcc_step or nested_gcc_call left, or a copy of that.
+ *   premise: the state was opened by a nested_gcc_open that did not refuse, and is what that or a later
+ *   nested_gcc_open, nested_gcc_step or nested_gcc_call left, or a copy of that.
  * - A pointer may be NULL, or any other, when its length is 0: nothing is read or written through it. So an
  *   empty std::vector may be passed by its data() and size(). This is tested, not proved, by
  *   host/nested-gcc/tests/null.rs and examples/empty.c. With another length a pointer is not NULL.
@@ -45,10 +46,11 @@
  *   measured, not proved, by host/nested-gcc/tests/stack.rs, which fails above the figure named there. A thread's
  *   own start takes some 5 KiB more (glibc). The 128 KiB that some C libraries (musl) give a thread by default
  *   are too few: unless it refuses, nested_gcc_session leaves less than 3 of them, and on some books it and
- *   nested_gcc_settle need up to twice as much. A host gives a thread that calls them 6 MiB, which suffices for every
+ *   nested_gcc_settle need about twice as much. A host gives a thread that calls them 6 MiB, which suffices for every
  *   book, or 512 KiB if it knows its books (pthread_attr_setstacksize). A kept session needs less: 36 KiB to open
- *   and 2 to step, and more on some books. For it 128 KiB sufficed on each of 1000 random books; the deepest nesting
- *   found needs 167. docs/ASSUMPTIONS.md, "Stack", has the figures in one table.
+ *   and 2 to step, and more on some books. On each of 1000 random books it needed at most 66 KiB of a thread's stack,
+ *   the thread's start included, and 100 others ran in threads of 128 KiB. The deepest nesting found needs 167.
+ *   docs/ASSUMPTIONS.md, "Stack", has the figures in one table.
  */
 #ifndef NESTED_GCC_H
 #define NESTED_GCC_H
@@ -90,7 +92,7 @@ uint32_t nested_gcc_version(void);
 
 /* A refusal is NESTED_GCC_REFUSED + its number, 1 to 10. The answer is the first that applies in this
  * order: 1 to 4; 5 for the masks by slot; 6, 7, 8 for the first row, then for the next; 10; 9. A function
- * that refuses writes nothing. */
+ * that refuses writes nothing; only nested_gcc_call puts its two words all the same. */
 #define NESTED_GCC_REFUSED 256u
 #define NESTED_GCC_TOO_SHORT (NESTED_GCC_REFUSED + 1u)        /* book under 12 bytes */
 #define NESTED_GCC_OUT_OF_RANGE (NESTED_GCC_REFUSED + 2u)     /* n, k or r out of range */
@@ -100,7 +102,7 @@ uint32_t nested_gcc_version(void);
 #define NESTED_GCC_ROW_TYPE (NESTED_GCC_REFUSED + 6u)         /* row type k or more, or its second byte not 0 */
 #define NESTED_GCC_ROW_END (NESTED_GCC_REFUSED + 7u)          /* end 0 or above n */
 #define NESTED_GCC_ROW_BOUND (NESTED_GCC_REFUSED + 8u)        /* lower above 256; upper above 256, not 65535 */
-#define NESTED_GCC_OUTPUT_TOO_SHORT (NESTED_GCC_REFUSED + 9u) /* an output is too short */
+#define NESTED_GCC_OUTPUT_TOO_SHORT (NESTED_GCC_REFUSED + 9u) /* an output too short; a slice of open_in not its size */
 #define NESTED_GCC_CALL_LIST (NESTED_GCC_REFUSED + 10u)       /* call list not whole calls, or too long */
 
 /*
@@ -301,7 +303,8 @@ nested_gcc_words nested_gcc_call_in(uint32_t kind, uint32_t type, uint32_t slot,
  *
  * NESTED_GCC_LIVE: opened live. The first n masks are those of nested_gcc_settle.
  * NESTED_GCC_DEAD: opened dead. The first n masks are 0.
- * Refusals: 1 to 8. The state is not touched: a session that was open in it goes on.
+ * Refusals: 1 to 8. The state is not touched: a session that was open in it goes on, and where there was none no step
+ *     or call may follow.
  * Masks past the n-th stay as they are.
  *
  * Stack: 36 KiB on a good book, and as for nested_gcc_settle up to 528 bytes for each strike that is nested in
@@ -319,8 +322,9 @@ static inline uint32_t nested_gcc_open(const uint8_t *book, size_t book_len, nes
  * The words of call i are put at answers[2i] and answers[2i + 1]; the first n masks of the state are then those of the
  * session. A list cut into pieces and stepped piece by piece gives the words and the last masks of the whole list.
  *
- * The premise: the state is what the last open, step or call left, or a copy of that. What is done with a state that
- * was never opened, or was changed otherwise, is not promised: memory outside it may then be read and written.
+ * The premise: nested_gcc_open opened the state, by NESTED_GCC_LIVE or NESTED_GCC_DEAD, and it is what the last open,
+ * step or call left, or a copy of that. What is done with a state that was never opened, or whose only open was
+ * refused, or that was changed otherwise, is not promised: memory outside it may then be read and written.
  *
  * NESTED_GCC_LIVE: the session is live after the list.
  * NESTED_GCC_DEAD: it is dead after the list: it opened dead, or died of a call that no back has taken back.

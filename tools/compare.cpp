@@ -615,23 +615,25 @@ template <class Searcher> struct Searches {
 };
 
 struct SearchFigures {
-    Searches<Kept> kept;
+    Searches<Kept> kept, kept_first;
     Searches<KeptWalls> walls;
     Searches<Replayed> replayed;
-    explicit SearchFigures(const Instance &in) : kept(in, NODES), walls(in, NODES), replayed(in, NODES_REPLAYED) {}
+    explicit SearchFigures(const Instance &in) : kept(in, NODES), kept_first(in, NODES_REPLAYED), walls(in, NODES), replayed(in, NODES_REPLAYED) {}
     void check() {
         kept.check("the kept session");
+        kept_first.check("the kept session");
         walls.check("walls");
         replayed.check("the replayed session");
     }
     void take_turns() {
         double begin = cpu_ns();
         for (size_t round = 0; round < ROUNDS || cpu_ns() - begin < ROUNDS_NS; round++) {
-            for (size_t turn = 0; turn < 3; turn++) {
-                size_t at = (round + turn) % 3;
+            for (size_t turn = 0; turn < 4; turn++) {
+                size_t at = (round + turn) % 4;
                 if (at == 0) kept.round();
                 if (at == 1) walls.round();
                 if (at == 2) replayed.round();
+                if (at == 3) kept_first.round();
             }
         }
     }
@@ -649,7 +651,7 @@ void search_table(const std::vector<Instance> &instances) {
         figures.check();
         double kept = middle(figures.kept.times);
         rows.add("| %s | %.2f | %.0f | %.0f | %zu |\n", instance.name.c_str(), walls.add(kept / middle(figures.walls.times)),
-                 replayed.add(middle(figures.replayed.times) / kept), kept, figures.kept.times.size());
+                 replayed.add(middle(figures.replayed.times) / middle(figures.kept_first.times)), kept, figures.kept.times.size());
         for (auto times : { &figures.kept.times, &figures.walls.times, &figures.replayed.times }) rows.taken_from(*times);
     }
     rows.add("| geometric mean | %.2f | %.0f | | |\n", walls.mean(), replayed.mean());

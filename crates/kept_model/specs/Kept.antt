@@ -1,7 +1,8 @@
 -- When lent memory holds a session: the one definition on which a step rests.
 --   sessionAt b past top   the session of the book b after the calls past, with the trail's height
 --   KeptAt b past at       the memory stands for the machine of the good book b after the calls past: its numbers are those of the session, its masks, as many
---                          as there are slots, the machine's, and the rest mirrors them by the book's closed table
+--                          as there are slots, the machine's; and unless it opened dead the rest mirrors them by the book's closed table, with the saved
+--                          masks on the trail
 --   Kept at                so it is for some book and some calls. `search-kept` gives it of whatever opening, steps and calls leave
 -- Assumes nothing.
 use mathlib.Core.Path.{_≡_}

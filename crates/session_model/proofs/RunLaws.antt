@@ -59,7 +59,10 @@ module _ (R : Rules) (book : List ℕ) where
   run-none = refl
 
   pub run-append : (calls more : List Call) → run R book (calls ++ more)
-      ≡ (runs (opened R (R .settle book) .0) (run R book calls .0) more .0, run R book calls .1 ++ runs (opened R (R .settle book) .0) (run R book calls .0) more .1)
+      ≡ (
+        runs (opened R (R .settle book) .0) (run R book calls .0) more .0,
+        run R book calls .1 ++ runs (opened R (R .settle book) .0) (run R book calls .0) more .1,
+      )
   unfolding run
   run-append calls more = runs-append (opened R (R .settle book) .0) (opened R (R .settle book) .1) calls more
 

@@ -1,6 +1,6 @@
 -- The laws of `OpenBlock` of filter_model's `specs/Open.antt`: an end before the block (`block-none`), and its two words as one (`words-bit`), which
--- have no bit (`block-closed`, `block-empty`), or are cut before the start (`from-bits`) and from the end on (`word-bits`, `before-bits`), which is `block-bits`.
--- No contract cites this file. Assumes nothing.
+-- have no bit (`block-closed`, `block-empty`), or are cut before the start (`from-bits`) and from the end on (`word-bits`, `before-bits`), which is
+-- `block-bits`. No contract cites this file. Assumes nothing.
 use mathlib.Core.Path.{_≡_, refl, sym, ap, _∙_}
 use mathlib.Core.Logic.{dite}
 use mathlib.Core.List.{List}

@@ -47,8 +47,8 @@ pub fn step(
     perform(masks, cells, trail, heights, n, k, session, call, i)
 }
 
-// The same for a call that comes alone, with the arms of `perform` in place of a call. A function that has one caller is compiled into it: a list's
-// loop has `step`, and the entry of a single call has this.
+// The same for a call that comes alone, with the arms of `perform` in place of a call. A function of this size is compiled into its caller where
+// that is the only one: a list's loop has `step`, and the entry of a single call has this.
 pub fn step_alone(
     masks: &mut [u32],
     cells: &mut [u16],

@@ -78,7 +78,7 @@ pub const CALLS_BYTES: usize = 4 * 4096;
 /// The most bytes of answers that [`session_into`] writes: two words of 4 bytes for each of 4096 calls.
 pub const ANSWERS_BYTES: usize = 2 * 4 * 4096;
 
-/// Whether a good book is live.
+/// Live or dead: a good book, or a session after a list.
 #[derive(Clone, Copy, Debug, PartialEq, Eq, Hash)]
 pub enum Verdict {
     Live,

@@ -34,7 +34,8 @@ pub enum Refusal {
     RowBound,
     /// 9: a lent output too short.
     OutputTooShort,
-    /// 10: call list not whole calls, or over 16,384 bytes; [`Live::run`](crate::Live::run) takes longer ones.
+    /// 10: call list not whole calls, or over 16,384 bytes; [`Live::run`](crate::Live::run) takes longer ones, up to 2^63
+    /// calls of a session.
     CallList,
 }
 

@@ -204,7 +204,7 @@ impl State {
         let State { record, masks, cells, heights, trail } = self;
         // SAFETY: calls and answers are slices, and the memory is five arrays, each apart from the others. The memory is
         // what an open, a step or a call left, or a copy: a State is only made by `open`, where that did not refuse, and
-        // by Clone; its fields are private here, and nothing else writes to them.
+        // by copying; its fields are private here, and nothing else writes to them.
         unsafe {
             nested_gcc_step_in(
                 calls.as_ptr(),
