@@ -10,8 +10,8 @@
  * A node is the opened book or what a decision led to, live or dead. Each costs its own calls: a mark and an assign, or a
  * back and a remove. The other way, without a state, is to send nested_gcc_session the decisions in force for each node:
  * it then opens the book anew and makes every decision of the way again, d(d + 1)/2 on a way of d decisions down.
- * Measured on searches of 10,000 nodes, that costs 70 to 170 times as much at 64 slots and 8 types, and 380 to 1,000
- * times at 256 slots and 32 types (docs/PERFORMANCE.md). nested_gcc_session is the form for a host that sends whole
+ * Measured (docs/PERFORMANCE.md), a node then costs some 70 to 110 times as much at 64 slots and 8 types, and some 200
+ * to 300 times at 256 slots and 32 types. nested_gcc_session is the form for a host that sends whole
  * lists (session.c). */
 #include "nested_gcc.h"
 #include <stdio.h>
