@@ -5,6 +5,7 @@
 - Every backticked name is defined: names before a file in that file, names with no file after them somewhere under crates/ or in a library.
 - Each row of a table of clauses has five filled cells, its third cell only keys, two wrong programs, and an edit or the words 'no edit:'.
 - The files of a key are just those that its names rest on: the definitions that they reach, name by name, through the specs/ folders.
+- Each line of an edit is a comment, `file:`, `old:` or `new:`; an old text stands just once in its file, and the new one is another.
 
 With --refused it checks instead what the last `rt ci`, or `rt must-fail`, left under target/must-fail:
 
@@ -81,6 +82,32 @@ def check_refusals():
         print(line)
     missing = sum(edit not in cited for edit in edits)
     print(f'target/must-fail: {len(edits)} edits, {len(edits) - missing} of them cited in docs/PROMISES.md, {missing} not, {len(faults)} faults')
+
+
+# ---- the texts of the edits
+
+
+def check_edit(edit):
+    """The faults of one edit's text: what `rt` would find after all crates are proved."""
+    lines = [line for line in edit.read_text().splitlines() if not line.startswith('#')]
+    if any(not re.match(r'(file|old|new): ', line) for line in lines):
+        return ['a line is no comment, `file:`, `old:` or `new:`']
+    source, old = None, None
+    for word, text in (line.split(': ', 1) for line in lines):
+        if word == 'file':
+            source = edit.parent.parent / text
+        elif word == 'old':
+            old = text
+            if not source or not source.is_file() or source.read_text().count(old) != 1:
+                return [f'not once in its file: {old}']
+        elif text == old:
+            return [f'the new text is the old one: {old}']
+    return []
+
+
+def check_edits():
+    for edit in sorted(CRATES.glob('*/must-fail/*.edit')):
+        faults.extend(f'{edit.relative_to(ROOT)}: {text}' for text in check_edit(edit))
 
 
 # ---- names, files and edits
@@ -285,7 +312,11 @@ def check_page():
 def main():
     if sys.argv[1:] not in ([], ['--refused']):
         sys.exit('usage: promises_check.py [--refused]')
-    check_refusals() if sys.argv[1:] else check_page()
+    if sys.argv[1:]:
+        check_refusals()
+    else:
+        check_edits()
+        check_page()
     sys.exit(1 if faults else 0)
 
 
