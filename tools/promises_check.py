@@ -5,7 +5,8 @@
 - Every backticked name is defined: names before a file in that file, names with no file after them somewhere under crates/ or in a library.
 - Each row of a table of clauses has five filled cells, its third cell only keys, two wrong programs, and an edit or the words 'no edit:'.
 - The files of a key are just those that its names rest on: the definitions that they reach, name by name, through the specs/ folders.
-- Each line of an edit is a comment, `file:`, `old:` or `new:`; an old text stands just once in its file, and the new one is another.
+- Each line of an edit is a comment, `file:`, `old:` or `new:`; an old text stands just once in its file, after the replacements before it, and the new
+  one is another.
 
 With --refused it checks instead what the last `rt ci`, or `rt must-fail`, left under target/must-fail:
 
@@ -92,16 +93,19 @@ def check_edit(edit):
     lines = [line for line in edit.read_text().splitlines() if not line.startswith('#')]
     if any(not re.match(r'(file|old|new): ', line) for line in lines):
         return ['a line is no comment, `file:`, `old:` or `new:`']
-    source, old = None, None
-    for word, text in (line.split(': ', 1) for line in lines):
+    text, old = '', None
+    for word, part in (line.split(': ', 1) for line in lines):
         if word == 'file':
-            source = edit.parent.parent / text
+            source = edit.parent.parent / part
+            text = source.read_text() if source.is_file() else ''
         elif word == 'old':
-            old = text
-            if not source or not source.is_file() or source.read_text().count(old) != 1:
+            old = part
+            if text.count(old) != 1:
                 return [f'not once in its file: {old}']
-        elif text == old:
+        elif part == old:
             return [f'the new text is the old one: {old}']
+        else:
+            text = text.replace(old, part)
     return []
 
 
