@@ -1,7 +1,7 @@
-// The exported entries: thin forms, for a host written in C or Rust. A slice crosses as a pointer and a length. Check, close, settle, session and
-// open have no premise: each takes every slice of every length, and answers 0 (live; of check: a good book), 1 (dead) or 256 + the number of a
-// refusal. A step and a call rest on memory that an opening which was not refused, and what came after it, left. The contracts cite entries_model's `specs/Entries.antt` and
-// `specs/Version.antt`, and kept_model's `specs/Kept.antt` and `specs/Entries.antt`.
+// The exported entries: thin forms, for a host written in C or Rust. A slice crosses as a pointer and a length. Check, close, settle, session
+// and open have no premise: each takes every slice of every length, and answers 0 (live; of check: a good book), 1 (dead) or 256 + the number of
+// a refusal. A step and a call rest on memory that an opening which was not refused, and what came after it, left. The contracts cite
+// entries_model's `specs/Entries.antt` and `specs/Version.antt`, and kept_model's `specs/Kept.antt` and `specs/Entries.antt`.
 use answer::word;
 use kept::Words;
 ghost use mathlib.Core.Path.{_≡_};

@@ -1,6 +1,6 @@
--- The laws of `Fell` and `Answer` of specs/Fell.antt: one for each answer of `fall`, from the laws of a fall and of its reversal in segments_model, four of them
--- after a search (`Searched`); and that the answer says which of the three cases holds of the slack before (`answer-clash`, `answer-reached`, `answer-quiet`).
--- No contract cites this file. Assumes nothing.
+-- The laws of `Fell` and `Answer` of specs/Fell.antt: one for each answer of `fall`, from the laws of a fall and of its reversal in segments_model, four of
+-- them after a search (`Searched`); and that the answer says which of the three cases holds of the slack before (`answer-clash`, `answer-reached`,
+-- `answer-quiet`). No contract cites this file. Assumes nothing.
 use mathlib.Core.Path.{_≡_, refl, sym, ap, _∙_}
 use mathlib.Core.Bool.{Bool}
 use mathlib.Core.Logic.{dite}

@@ -1,8 +1,8 @@
--- The proof of the cycle of calls of `fix`, `fix_free`, `follow`, `strike` and `strike_free`. The measure is four times the values that are left, plus
--- 1 for `fix`, 2 for `fix_free` and `strike_free`, and 3 for `follow`. The invariant of each loop is `Filtered` for what was passed: in
--- `fix` the other values that are struck, and that `rest` is what the slot has besides v (`others-less`); in the two others the slots that are settled
--- (`FreeInv`, whose turns are those of TurnLaws). A strike by `thin` is `thin-quiet` or `thin-followed`; `strike` is `strike-followed`, and `follow` is `follow-both` where both
--- its loops run; a slot of two values is fixed by one strike, `strike-last`. Assumes nothing.
+-- The proof of the cycle of calls of `fix`, `fix_free`, `follow`, `strike` and `strike_free`. The measure is four times the values that are left, plus 1 for
+-- `fix`, 2 for `fix_free` and `strike_free`, and 3 for `follow`. The invariant of each loop is `Filtered` for what was passed: in `fix` the other values that
+-- are struck, and that `rest` is what the slot has besides v (`others-less`); in the two others the slots that are settled (`FreeInv`, whose turns are those
+-- of TurnLaws). A strike by `thin` is `thin-quiet` or `thin-followed`; `strike` is `strike-followed`, and `follow` is `follow-both` where both its loops run;
+-- a slot of two values is fixed by one strike, `strike-last`. Assumes nothing.
 use mathlib.Core.Path.{_≡_, refl, sym, _∙_}
 use mathlib.Core.Bool.{true, false}
 use mathlib.Core.List.{List}
