@@ -3,6 +3,7 @@
 --   _orElse_                the first of two numbers that is not 0
 --   firstOf m f             the first of f 0, f 1, .., f (m - 1) that is not 0; 0 where there is none
 --   within most x           x is from 1 to most
+--   beyond limits n k r     n, k or r is out of range
 --   outOfRange, misplaced   the conditions of the numbers 2 and 4
 --   headerFault, maskFault, rowFault   the numbers 1 to 4, 5, and 6 to 8
 --   refusal limits b        the number that refuses b, 0 for a good book
@@ -38,9 +39,11 @@ firstOf (suc m) f = firstOf m f orElse f m
 abbrev pub within : ℕ → ℕ → Bool
 within most x = leb 1 x && leb x most
 
--- n, k or r is out of range
+abbrev pub beyond : Limits → ℕ → ℕ → ℕ → Bool
+beyond limits n k r = not (within (limits .slots) n) || not (within (limits .values) k) || not (leb r (limits .rows))
+
 abbrev pub outOfRange : Limits → List ℕ → Bool
-outOfRange limits b = not (within (limits .slots) (slots b)) || not (within (limits .values) (values b)) || not (leb (rowCount b) (limits .rows))
+outOfRange limits b = beyond limits (slots b) (values b) (rowCount b)
 
 -- an offset or length differs from the one that n and r give, or the lent length does
 abbrev pub misplaced : List ℕ → Bool

@@ -24,7 +24,7 @@ use Rattle.closing_model.specs.Table.{view, Loosest}
 use Rattle.closing_model.proofs.PlaceLaws.{value-below, prefix-upto, place-of}
 use Rattle.closing.specs.Close.{closeFault, overlay}
 use Rattle.settling_model.specs.Book.{bookStart, SettlesTo}
-use Rattle.settling_model.specs.Stable.{All}
+use Rattle.book.specs.Lists.{All}
 use Rattle.settle_fault.specs.Settle.{settleFault}
 use Rattle.session_model.specs.BookRun.{rulesOf}
 use Rattle.session_model.specs.Calls.{callsOf}

@@ -22,7 +22,8 @@ use Rattle.book.proofs.LayoutLaws.{length-masks}
 use Rattle.closing_model.specs.Table.{view}
 use Rattle.settling_model.specs.Book.{closedBook, settledBook}
 use Rattle.settling_model.specs.Settling.{settling}
-use Rattle.settling_model.specs.Stable.{All, tableBounds}
+use Rattle.book.specs.Lists.{All}
+use Rattle.settling_model.specs.Stable.{tableBounds}
 use Rattle.settling_model.proofs.SettlingLaws.{settling-largest}
 use Rattle.segments_model.specs.Cells.{standsAt}
 use Rattle.segments_model.specs.Lines.{cornerOf, slackOf}

@@ -19,7 +19,8 @@ use Rattle.book.specs.Layout.{slots, values, masks}
 use Rattle.closing_model.specs.Table.{Table, Loosest}
 use Rattle.settling_model.specs.Settled.{LacksAt}
 use Rattle.settling_model.specs.Plans.{singles}
-use Rattle.settling_model.specs.Stable.{Bound, All, tableBounds}
+use Rattle.book.specs.Lists.{All}
+use Rattle.settling_model.specs.Stable.{Bound, tableBounds}
 use Rattle.settling_model.specs.Book.{bookStart}
 use Rattle.session_model.specs.Decisions.{Decision, assign, remove, Meets, LargestUnder, UnstableUnder}
 use Rattle.session_model.specs.Calls.{Call, decide, mark, back, show, walls, kindOf}

@@ -21,7 +21,7 @@ use Rattle.closing_model.specs.Start.{speaks, lowOf, highOf, startLowers, start
 use Rattle.closing_model.proofs.PlaceLaws.{place-value, place-prefix}
 use Rattle.closing_model.proofs.SumLaws.{others-own}
 use Rattle.closing_model.proofs.StartLaws.{start-lowers-at, start-uppers-at}
-use Rattle.settling_model.specs.Stable.{All}
+use Rattle.book.specs.Lists.{All}
 use Rattle.settling_model.specs.Plans.{is, occurs, KeepsRow, occursTable}
 use Rattle.settling_model.proofs.StaircaseLaws.{staircase-le, count-staircase}
 

@@ -17,7 +17,8 @@ use Rattle.domains.proofs.MaskLaws.{ones-none}
 use Rattle.domains.proofs.MasksLaws.{subset-refl, subset-trans, subset-antisym, total-same}
 use Rattle.closing_model.specs.Closing.{same, listSum}
 use Rattle.closing_model.proofs.TestLaws.{same-true, true-same}
-use Rattle.settling_model.specs.Stable.{Bound, Keeps, Unbroken, All, Stable}
+use Rattle.book.specs.Lists.{All}
+use Rattle.settling_model.specs.Stable.{Bound, Keeps, Unbroken, Stable}
 use Rattle.settling_model.specs.Cuts.{cutLow, cutHigh}
 use Rattle.settling_model.specs.Settling.{pass, passes, fixpoint}
 use Rattle.settling_model.proofs.StableLaws.{settled-keeps, all-zip}

@@ -14,7 +14,8 @@ use borrow.Author.Tests.{ne-eqb, eqb-false, leb-true, le-leb, not-true}
 use Rattle.domains.specs.Masks.{Alive, Subset}
 use Rattle.domains.specs.Counts.{countHas, countFixed}
 use Rattle.domains.proofs.MasksLaws.{alive-superset}
-use Rattle.settling_model.specs.Stable.{Bound, Unbroken, All, Stable, Largest, Unstable}
+use Rattle.book.specs.Lists.{All}
+use Rattle.settling_model.specs.Stable.{Bound, Unbroken, Stable, Largest, Unstable}
 use Rattle.settling_model.specs.Settling.{fixpoint, noneEmpty, noneBroken, settling}
 use Rattle.settling_model.proofs.StableLaws.{stable-unbroken, largest-unique}
 use Rattle.settling_model.proofs.PassesLaws.{still-stable, fixpoint-subset, fixpoint-keeps, fixpoint-still}

@@ -16,7 +16,8 @@ use Rattle.domains.proofs.MaskLaws.{testBit-lt}
 use Rattle.domains.proofs.MasksLaws.{subset-refl, subset-trans, subset-antisym, alive-superset}
 use Rattle.domains.proofs.CountsLaws.{count-same, only-fixed, fixed-only, countHas-subset, only-subset, countFixed-subset}
 use Rattle.settling_model.specs.Settled.{LacksAt, Settled}
-use Rattle.settling_model.specs.Stable.{Bound, Keeps, Unbroken, All, Stable, Largest, Unstable}
+use Rattle.book.specs.Lists.{All}
+use Rattle.settling_model.specs.Stable.{Bound, Keeps, Unbroken, Stable, Largest, Unstable}
 use Rattle.settling_model.proofs.SettledLaws.{settled-words, words-settled}
 
 -- ---- Keeps

@@ -14,7 +14,8 @@ use Rattle.domains.specs.Counts.{countHas, countFixed}
 use Rattle.closing_model.specs.Table.{Table, Within, size, place}
 use Rattle.closing_model.proofs.PlaceLaws.{place-below}
 use Rattle.closing_model.proofs.TableLaws.{within-fewer}
-use Rattle.settling_model.specs.Stable.{Bound, Keeps, All, Stable, Unstable, boundAt, lineBounds, tableBounds}
+use Rattle.book.specs.Lists.{All}
+use Rattle.settling_model.specs.Stable.{Bound, Keeps, Stable, Unstable, boundAt, lineBounds, tableBounds}
 use Rattle.settling_model.proofs.StableLaws.{keeps-unbroken, all-append, append-all}
 
 -- ---- lineBounds, tableBounds

@@ -16,7 +16,7 @@ use Rattle.domains.specs.Masks.{HasAt}
 use Rattle.domains.specs.Counts.{count, bit}
 use Rattle.book.specs.declared.Row.{Row}
 use Rattle.closing_model.specs.Table.{Table}
-use Rattle.settling_model.specs.Stable.{All}
+use Rattle.book.specs.Lists.{All}
 
 unfoldable pub is : ℕ → ℕ → ℕ
 is x v = bit (eqb x v)

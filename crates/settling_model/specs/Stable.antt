@@ -2,7 +2,6 @@
 --   Bound              value stands at least `lower` and at most `upper` times before `end`
 --   Keeps b M          document 01's conditions on M at the bound b, for its value v and its end t
 --   Unbroken M b       the first two of them: P is at least lower and B at most upper
---   All C xs           C holds of each element of xs
 --   Stable bs M        M is stable: no mask is empty, and M keeps every bound of bs
 --   Largest bs M N     N is the largest stable list within M
 --   Unstable bs M      no stable list lies within M (document 01: dead)
@@ -13,6 +12,7 @@
 use mathlib.Core.Path.{_≡_}
 use mathlib.Core.List.{List, [], _∷_, _++_}
 use Prim.Native.Nat.{ℕ, zero, suc, _≤_, _<_}
+use Rattle.book.specs.Lists.{All}
 use Rattle.domains.specs.Masks.{HasAt, FixedAt, Alive, Subset}
 use Rattle.domains.specs.Counts.{countHas, countFixed}
 use Rattle.closing_model.specs.Table.{Table, place}
@@ -36,10 +36,6 @@ pub record Keeps (b : Bound) (M : List ℕ) : Type 0 where
 pub record Unbroken (M : List ℕ) (b : Bound) : Type 0 where
   pub low : b .lower ≤ countHas M (b .value) (b .end)
   pub high : countFixed M (b .value) (b .end) ≤ b .upper
-
-abbrev pub All : {A : Type 0} → (A → Type 0) → List A → Type 0
-All C [] = Unit {0}
-All C (x ∷ xs) = C x × All C xs
 
 pub record Stable (bs : List Bound) (M : List ℕ) : Type 0 where
   pub alive : Alive M

@@ -14,7 +14,7 @@ use Rattle.book.specs.Refusal.{refusal}
 use Rattle.closing_model.specs.Table.{view, NoneClosed}
 use Rattle.closing_model.specs.Closing.{same}
 use Rattle.closing_model.proofs.TestLaws.{same-true}
-use Rattle.settling_model.specs.Stable.{All}
+use Rattle.book.specs.Lists.{All}
 use Rattle.settling_model.specs.Book.{bookStart, SettlesTo, closedBook, settledBook, BookPlan}
 use Rattle.settling_model.proofs.BookLaws.{closedBook-loosest, closedBook-none, settledBook-settles}
 use Rattle.session_model.specs.Calls.{callsOf}

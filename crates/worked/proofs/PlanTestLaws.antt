@@ -13,7 +13,7 @@ use lib.ListN.{length, getD}
 use Rattle.domains.specs.Mask.{testBit}
 use Rattle.book.specs.declared.Row.{Row}
 use Rattle.book.specs.Layout.{slots, values, masks, rows}
-use Rattle.settling_model.specs.Stable.{All}
+use Rattle.book.specs.Lists.{All}
 use Rattle.settling_model.specs.Plans.{occurs, KeepsRow, Plan}
 use Rattle.settling_model.specs.Book.{BookPlan}
 use Rattle.worked.specs.PlanTest.{allBelow, noList, keepsRow, keepsRows, isPlan, planOf, planless}
