@@ -5,12 +5,21 @@
 use mathlib.Core.Path.{_≡_, refl, sym, ap, _∙_}
 use mathlib.Core.List.{List, [], _∷_, _++_, append-assoc, append-nil}
 use Prim.Native.Nat.{ℕ, zero, suc, _+_, _*_, _/_, _%_, _≤_, _<_}
-use native.Mathlib.Nat.{add-mul-mod-self-right, div-div-eq-div-mul, mul-suc, mul-zero, mul-le-mul-left, le-trans}
+use native.Mathlib.Nat.{add-zero, add-mul-mod-self-right, div-div-eq-div-mul, mul-suc, mul-zero, mul-le-mul-left, le-trans}
 use native.Mathlib.Numerals.{add-one}
 use native.Mathlib.Omega.{arith}
-use lib.ListN.{length, getD, take, drop, length-append, length-drop, List·getD-append}
+use lib.ListN.{length, getD, set, take, drop, length-append, length-set, length-drop, List·getD-append}
 use lib.Seq.{getD-append-add, sets, sets-eq, length-sets, take-suc, take-at, take-length, drop-append-add, drop-drop, length-take-le}
 use Rattle.elements.specs.Elements.{digits, bytesOf}
+
+-- ---- sets
+-- stores behind stores are one run of stores
+pub sets-append : (out : List ℕ) (i : ℕ) (xs ys : List ℕ) (j : ℕ) → j ≡ i + length xs → sets (sets out i xs) j ys ≡ sets out i (xs ++ ys)
+sets-append out i [] ys j is = ap (λ (e : ℕ). sets out e ys) (is ∙ add-zero i)
+sets-append out i (x ∷ xs) ys j is = sets-append (set out i x) (suc i) xs ys j (omega arith)
+
+pub length-two : (out : List ℕ) (i j x y : ℕ) → length (set (set out i x) j y) ≡ length out
+length-two out i j x y = length-set (set out i x) j y ∙ length-set out i x
 
 -- ---- digits
 

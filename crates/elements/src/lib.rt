@@ -32,7 +32,7 @@ pub fn write32(xs: &[u32], out: &mut [u8])
 }
 
 // Writes one element of 2 bytes at a place.
-fn put16(out: &mut [u8], at: usize, x: u16)
+pub fn put16(out: &mut [u8], at: usize, x: u16)
     requires { ⌜ at + 2 ≤ length (now out) ⌝ }
     ensures { λ r. ⌜ now (out .exit) ≡ sets (now (out .entry)) at (digits 2 x) ⌝ }
 {
@@ -41,7 +41,7 @@ fn put16(out: &mut [u8], at: usize, x: u16)
 }
 
 // Writes one element of 4 bytes at a place.
-fn put32(out: &mut [u8], at: usize, x: u32)
+pub fn put32(out: &mut [u8], at: usize, x: u32)
     requires { ⌜ at + 4 ≤ length (now out) ⌝ }
     ensures { λ r. ⌜ now (out .exit) ≡ sets (now (out .entry)) at (digits 4 x) ⌝ }
 {

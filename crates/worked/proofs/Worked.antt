@@ -14,7 +14,8 @@ use Rattle.book.specs.Refusal.{firstOf, headerFault, maskFault, rowFault, refus
 use Rattle.closing_model.specs.Table.{others}
 use Rattle.closing_model.specs.Start.{lowOf, highOf, startLowers, startUppers}
 use Rattle.closing_model.specs.Closing.{newLower, newUpper, stepLowers, stepUppers, crossed, same, closingWithin, listSum, closing}
-use Rattle.settling_model.specs.Stable.{All, lineBounds, tableBounds}
+use Rattle.book.specs.Lists.{All}
+use Rattle.settling_model.specs.Stable.{lineBounds, tableBounds}
 use Rattle.settling_model.specs.Cuts.{fixTo, strikeUnfixed, mapBefore, cutIf, cutLow, cutHigh}
 use Rattle.settling_model.specs.Settling.{pass, passes as settlingPasses, fixpoint, noneEmpty, noneBroken, settling}
 use Rattle.settling_model.specs.Plans.{is}
@@ -25,7 +26,8 @@ use Rattle.session_model.specs.Calls.{callOf}
 use Rattle.session_model.specs.State.{wordsOf}
 use Rattle.session_model.specs.Refusal.{first, refusal as callRefusal}
 use Rattle.session_model.specs.Machine.{decided, restored, act, stepBy, step, runs, opened, run}
-use Rattle.worked.specs.Bytes.{each, bookOf}
+use Rattle.elements.specs.Elements.{bytesOf}
+use Rattle.book_bytes.specs.BookBytes.{rowsBytes}
 use Rattle.worked.specs.PlanTest.{allBelow, noList, keepsRow, keepsRows, isPlan, planOf, planless}
 use Rattle.worked.specs.Claims.{holds, passes, every, Says}
 use Rattle.worked.specs.WorkedTable.{table, workedTable}
@@ -35,7 +37,7 @@ pub worked-table : workedTable ≡ true
 unfolding bind Option·elim ones total testBit clearBit count only listOf firstOf headerFault maskFault rowFault refusal others lowOf highOf
     startLowers startUppers newLower newUpper stepLowers stepUppers crossed same closingWithin listSum closing lineBounds tableBounds fixTo
     strikeUnfixed mapBefore cutIf cutLow cutHigh pass settlingPasses fixpoint noneEmpty noneBroken settling settledBook standsAt keepOnly cut callOf
-    wordsOf first callRefusal decided restored act stepBy step runs opened run each bookOf is allBelow noList keepsRow keepsRows isPlan planOf
+    wordsOf first callRefusal decided restored act stepBy step runs opened run bytesOf rowsBytes is allBelow noList keepsRow keepsRows isPlan planOf
     planless holds passes every
 worked-table = refl
 

@@ -7,33 +7,34 @@
 use mathlib.Core.Bool.{Bool}
 use mathlib.Core.List.{List, [], _∷_, _++_}
 use Prim.Native.Nat.{ℕ}
-use Rattle.worked.specs.Bytes.{atLeast, atMost, bookOf, everyType, assign, remove, mark, back, show, upperWalls}
+use Rattle.book_bytes.specs.BookBytes.{fullMasks}
+use Rattle.worked.specs.Bytes.{atLeast, atMost, plainBook, assign, remove, mark, back, show, upperWalls}
 use Rattle.worked.specs.Claims.{Claim, closes, dead, settles, noPlan, hasPlan, session, lowers, uppers, every}
 
 -- ---- the books. No masks are given for M1 to M6: every type may go in every slot
 abbrev pub m1 : List ℕ
-m1 = bookOf 1 1 (everyType 1 1) []
+m1 = plainBook 1 1 (fullMasks 1 1) []
 
 abbrev pub m2 : List ℕ
-m2 = bookOf 5 2 (everyType 5 2) (atLeast 0 4 2 ∷ [])
+m2 = plainBook 5 2 (fullMasks 5 2) (atLeast 0 4 2 ∷ [])
 
 abbrev pub m3 : List ℕ
-m3 = bookOf 5 2 (everyType 5 2) (atMost 0 4 2 ∷ [])
+m3 = plainBook 5 2 (fullMasks 5 2) (atMost 0 4 2 ∷ [])
 
 abbrev pub m4 : List ℕ
-m4 = bookOf 5 3 (everyType 5 3) (atLeast 1 5 2 ∷ atLeast 2 5 1 ∷ [])
+m4 = plainBook 5 3 (fullMasks 5 3) (atLeast 1 5 2 ∷ atLeast 2 5 1 ∷ [])
 
 abbrev pub m5 : List ℕ
-m5 = bookOf 2 2 (everyType 2 2) (atLeast 0 1 2 ∷ [])
+m5 = plainBook 2 2 (fullMasks 2 2) (atLeast 0 1 2 ∷ [])
 
 abbrev pub m6 : List ℕ
-m6 = bookOf 2 2 (everyType 2 2) (atLeast 0 1 1 ∷ atLeast 1 1 1 ∷ [])
+m6 = plainBook 2 2 (fullMasks 2 2) (atLeast 0 1 1 ∷ atLeast 1 1 1 ∷ [])
 
 abbrev pub m7 : List ℕ
-m7 = bookOf 4 4 (3 ∷ 3 ∷ 3 ∷ 12 ∷ []) (atMost 0 4 1 ∷ atMost 1 4 1 ∷ [])
+m7 = plainBook 4 4 (3 ∷ 3 ∷ 3 ∷ 12 ∷ []) (atMost 0 4 1 ∷ atMost 1 4 1 ∷ [])
 
 abbrev pub m8 : List ℕ
-m8 = bookOf 3 2 (3 ∷ 3 ∷ 3 ∷ []) (atLeast 0 2 1 ∷ [])
+m8 = plainBook 3 2 (3 ∷ 3 ∷ 3 ∷ []) (atLeast 0 2 1 ∷ [])
 
 -- ---- M8's run
 abbrev pub m8Calls : List ℕ

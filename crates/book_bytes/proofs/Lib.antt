@@ -1,0 +1,2 @@
+pub mod BookBytesLaws
+mod WritingLaws
