@@ -1,0 +1,6 @@
+pub mod CsvLaws
+pub mod GrammarLaws
+pub mod FigureLaws
+pub mod ImportLaws
+pub mod MeaningLaws
+mod Worked

@@ -1,0 +1,4 @@
+pub mod Rfc
+pub mod Csv
+pub mod Import
+pub mod Meaning
