@@ -1,4 +1,4 @@
-// The four entries at document 01's limits, typed, for callers written in Rattle. No entry has a premise: every slice of every length gets an
+// The entries at document 01's limits, typed, for callers written in Rattle. No entry has a premise: every slice of every length gets an
 // answer. The contracts cite the definitions of the entries with limits, at entries_model's `fullLimits`.
 use answer::Answer;
 use book::Limits;
@@ -10,7 +10,7 @@ ghost use Rattle.book.specs.Refusal.{refusal, numberOf};
 ghost use Rattle.closing.specs.Close.{Closes, closeOf};
 ghost use Rattle.settle_fault.specs.Settle.{Settles, settleOf};
 ghost use Rattle.session_fault.specs.Entry.{SessionRan, sessionOf};
-ghost use Rattle.entries_model.specs.Entries.{fullLimits};
+ghost use Rattle.entries_model.specs.Entries.{fullLimits, ImportEntry};
 
 // Whether book is a good book, or why not.
 pub fn check(book: &[u8]) -> Verdict
@@ -61,4 +61,11 @@ pub fn session(book: &[u8], calls: &[u8], answers: &mut [u32], masks: &mut [u32]
         rows: 1024,
     };
     session::run_session(book, limits, calls, answers, masks)
+}
+
+// Imports orders from CSV text: writes the book that text says into the front of book. Never answers dead.
+pub fn import_csv(text: &[u8], book: &mut [u8]) -> Answer
+    ensures { λ r. ⌜ ImportEntry (now (text .entry)) (now (book .entry)) (wordOf r) (now (book .exit)) ⌝ }
+{
+    csv::import_csv(text, book)
 }

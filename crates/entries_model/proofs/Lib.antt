@@ -1,3 +1,4 @@
 pub mod CheckLaws
+pub mod ImportTheorems
 pub mod Theorems
 pub mod WidthLaws

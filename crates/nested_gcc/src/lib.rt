@@ -1,12 +1,12 @@
-// The exported entries: thin forms, for a host written in C or Rust. A slice crosses as a pointer and a length. Check, close, settle, session
-// and open have no premise: each takes every slice of every length, and answers 0 (live; of check: a good book), 1 (dead) or 256 + the number of
-// a refusal. A step and a call rest on memory that an opening which was not refused, and what came after it, left. The contracts cite
+// The exported entries: thin forms, for a host written in C or Rust. A slice crosses as a pointer and a length. Check, close, settle, session,
+// open and import have no premise: each takes every slice of every length, and answers 0 (live; of check and import: a good book), 1 (dead) or
+// 256 + the number of a refusal. A step and a call rest on memory that an opening which was not refused, and what came after it, left. The contracts cite
 // entries_model's `specs/Entries.antt` and `specs/Version.antt`, and kept_model's `specs/Kept.antt` and `specs/Entries.antt`.
 use answer::word;
 use kept::Words;
 ghost use mathlib.Core.Path.{_≡_};
 ghost use Rattle.session_model.specs.Calls.{callOf};
-ghost use Rattle.entries_model.specs.Entries.{checkAnswer, CloseEntry, SettleEntry, SessionEntry};
+ghost use Rattle.entries_model.specs.Entries.{checkAnswer, CloseEntry, SettleEntry, SessionEntry, ImportEntry};
 ghost use Rattle.entries_model.specs.Version.{version};
 ghost use Rattle.kept_model.specs.Entries.{OpenEntry, KeptSteps, KeptCalls};
 ghost use Rattle.kept_model.specs.Kept.{Kept};
@@ -15,7 +15,7 @@ ghost use Rattle.kept_model.specs.Memory.{memory};
 // The version of this part.
 const MAJOR: u32 = 1;
 
-const MINOR: u32 = 1;
+const MINOR: u32 = 2;
 
 const PATCH: u32 = 0;
 
@@ -110,6 +110,14 @@ pub extern "C" fn nested_gcc_call_in(
         (memory (now (masks .exit)) (now (cells .exit)) (now (trail .exit)) (now (heights .exit)) (now (numbers .exit))) ⌝ }
 {
     kept::call(kind, value, slot, masks, cells, trail, heights, numbers)
+}
+
+// Imports orders from CSV text: writes the book that text says into the front of book. Never answers dead.
+#[no_mangle]
+pub extern "C" fn nested_gcc_import_csv(text: &[u8], book: &mut [u8]) -> u32
+    ensures { λ r. ⌜ ImportEntry (now (text .entry)) (now (book .entry)) r (now (book .exit)) ⌝ }
+{
+    word(csv::import_csv(text, book))
 }
 
 // The version of this part in one number.

@@ -1,0 +1,5 @@
+mod FieldLaws
+mod RecordLaws
+mod PassLaws
+mod OrdersLaws
+mod EntryLaws

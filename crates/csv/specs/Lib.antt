@@ -1,0 +1,4 @@
+pub mod Part
+pub mod Read
+pub mod Passes
+pub mod Orders
