@@ -31,6 +31,7 @@
 
 mod book;
 mod calls;
+mod import;
 mod live;
 mod refusal;
 mod session;
@@ -40,6 +41,7 @@ mod version;
 
 pub use book::Book;
 pub use calls::Calls;
+pub use import::{import_csv, import_csv_into};
 pub use live::{Decided, Live, Standing};
 pub use refusal::{CallRefusal, Refusal};
 pub use session::{session, session_into, Answer, Session};

@@ -37,10 +37,14 @@ pub enum Refusal {
     /// 10: call list not whole calls, or over 16,384 bytes; [`Live::run`](crate::Live::run) takes longer ones, up to 2^63
     /// calls of a session.
     CallList,
+    /// 17: quoting or a line end breaks RFC 4180.
+    Quoting,
+    /// 18: a record with the wrong number of fields, or a field, other than an empty upper, not one to five digits.
+    Field,
 }
 
 /// Each refusal with its number and its words.
-const TABLE: [(Refusal, u32, &str); 10] = [
+const TABLE: [(Refusal, u32, &str); 12] = [
     (Refusal::TooShort, 1, "book under 12 bytes"),
     (Refusal::OutOfRange, 2, "n, k or r out of range"),
     (Refusal::ReservedByte, 3, "byte 3 not 0"),
@@ -51,6 +55,8 @@ const TABLE: [(Refusal, u32, &str); 10] = [
     (Refusal::RowBound, 8, "lower above 256; upper above 256, not 65535"),
     (Refusal::OutputTooShort, 9, "a lent output too short"),
     (Refusal::CallList, 10, "call list not whole calls, or over 16,384 bytes"),
+    (Refusal::Quoting, 17, "quoting or a line end breaks RFC 4180"),
+    (Refusal::Field, 18, "wrong number of fields, or a field not one to five digits"),
 ];
 
 impl Refusal {

@@ -59,6 +59,7 @@ extern "C" {
         masks: *mut u8,
         masks_len: usize,
     ) -> u32;
+    fn nested_gcc_import_csv(text: *const u8, text_len: usize, book: *mut u8, book_len: usize) -> u32;
     fn nested_gcc_open_in(
         book: *const u8,
         book_len: usize,
@@ -110,6 +111,13 @@ extern "C" {
 pub fn version() -> u32 {
     // SAFETY: nothing is passed.
     unsafe { nested_gcc_version() }
+}
+
+/// 0 for an accepted text, whose book is then in the front of `book`; else 256 + the refusal number.
+pub fn import_csv(text: &[u8], book: &mut [u8]) -> u32 {
+    // SAFETY: the pointers and the lengths are those of slices, so that no pointer is null; the text is readable and
+    // unchanged during the call, which only reads it, and the book is writable and lies apart from the text.
+    unsafe { nested_gcc_import_csv(text.as_ptr(), text.len(), book.as_mut_ptr(), book.len()) }
 }
 
 /// 0 for a good book, else 256 + the refusal number.
