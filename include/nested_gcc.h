@@ -4,17 +4,18 @@
  *
  * docs/SPECIFICATION.md has the rules in full: 1 Words and numbers, 2 The book, 3 Closing,
  * 4 Settling and plans, 5 The session, 6 Walls, 7 Entries, 8 Refusals, 9 Worked examples, 10 The program planrun,
- * 11 The kept session, 12 The version.
+ * 11 The kept session, 12 The version, 13 The import of CSV.
  * docs/ASSUMPTIONS.md lists what a host must keep.
  *
- * nested_gcc_check    whether the bytes are a good book
- * nested_gcc_close    the bounds that follow from a book's rows, or that the book is dead
- * nested_gcc_settle   the types that each slot may still have, or that the book is dead
- * nested_gcc_session  a list of calls on a settled book: decisions, marks to go back to, and questions
- * nested_gcc_open     the same session kept in memory of the host, a nested_gcc_state, for a search: opened once,
- * nested_gcc_step     then stepped by lists of calls,
- * nested_gcc_call     or by single calls, from where the last left it
- * nested_gcc_version  the version of the archive
+ * nested_gcc_check       whether the bytes are a good book
+ * nested_gcc_close       the bounds that follow from a book's rows, or that the book is dead
+ * nested_gcc_settle      the types that each slot may still have, or that the book is dead
+ * nested_gcc_session     a list of calls on a settled book: decisions, marks to go back to, and questions
+ * nested_gcc_open        the same session kept in memory of the host, a nested_gcc_state, for a search: opened once,
+ * nested_gcc_step        then stepped by lists of calls,
+ * nested_gcc_call        or by single calls, from where the last left it
+ * nested_gcc_import_csv  the book that orders in CSV say, written to memory of the host
+ * nested_gcc_version     the version of the archive
  *
  * A book, in little-endian numbers: slots n (2 bytes, 1 to NESTED_GCC_SLOTS_MOST), types k (1 byte, 1 to
  * NESTED_GCC_TYPES_MOST), a byte 0, row count r (2 bytes, 0 to NESTED_GCC_ROWS_MOST), offset of the masks
@@ -24,20 +25,20 @@
  * `upper` of the type; upper NESTED_GCC_NO_UPPER means no upper bound.
  *
  * For every function here:
- * - There is no premise on the bytes of a book or a list of calls. If they are readable and the outputs writable,
- *   the answer is defined, and follows from the book, the calls and the outputs' lengths alone; that of
- *   nested_gcc_step and nested_gcc_call from the state, the calls and the answers' length. These two have the only
- *   premise: the state was opened by a nested_gcc_open that did not refuse, and is what that or a later
- *   nested_gcc_open, nested_gcc_step or nested_gcc_call left, or a copy of that.
+ * - There is no premise on the bytes of a book, a list of calls or a text. If they are readable and the outputs
+ *   writable, the answer is defined, and follows from these and the outputs' lengths alone; that of nested_gcc_step and
+ *   nested_gcc_call from the state, the calls and the answers' length. These two have the only premise: the state was
+ *   opened by a nested_gcc_open that did not refuse, and is what that or a later nested_gcc_open, nested_gcc_step or
+ *   nested_gcc_call left, or a copy of that.
  * - A pointer may be NULL, or any other, when its length is 0: nothing is read or written through it. So an
  *   empty std::vector may be passed by its data() and size(). This is tested, not proved, by
  *   host/nested-gcc/tests/null.rs and examples/empty.c. With another length a pointer is not NULL.
  * - The library keeps nothing between calls and allocates nothing: a kept session is in the state that the host owns.
  *   So any number of threads may call at once, each with outputs and a state of its own.
- * - A book is only read, and only during the call, and so is a list of calls. No thread may change them
- *   meanwhile. Functions that run at once may share them.
+ * - A book is only read, and only during the call, and so are a list of calls and a text. No thread may change them
+ *   meanwhile. Functions that run at once may share them. The book of nested_gcc_import_csv alone is an output.
  * - An output is written only during the call, and only where the function's comment says so. What it
- *   holds before plays no part in the answer or in what is written. It may not overlap the book, the calls or
+ *   holds before plays no part in the answer or in what is written. It may not overlap the book, the calls, the text or
  *   another output, and no other thread may use it meanwhile. All of this but the second sentence holds of a state.
  * - Lengths are in bytes. An output's elements are little-endian and need no alignment; a trailing part
  *   of an element neither counts nor is written. A buffer is lent: it is the function's for the call alone.
@@ -64,9 +65,9 @@ extern "C" {
 
 /* The version of this header: major, when a signature changes, or what a good input was answered; minor, when an
  * entry is added, or what was refused is accepted or refused by another number; patch else. CHANGELOG.md tells them. */
-#define NESTED_GCC_VERSION "1.1.0"
+#define NESTED_GCC_VERSION "1.2.0"
 #define NESTED_GCC_VERSION_MAJOR 1u
-#define NESTED_GCC_VERSION_MINOR 1u
+#define NESTED_GCC_VERSION_MINOR 2u
 #define NESTED_GCC_VERSION_PATCH 0u
 #define NESTED_GCC_VERSION_NUMBER \
     (NESTED_GCC_VERSION_MAJOR * 65536u + NESTED_GCC_VERSION_MINOR * 256u + NESTED_GCC_VERSION_PATCH)
@@ -83,16 +84,18 @@ uint32_t nested_gcc_version(void);
 #define NESTED_GCC_NO_UPPER 65535u  /* the upper of a row that has no upper bound */
 #define NESTED_GCC_BOOK_BYTES 9228u /* the most bytes of a book: 12 + 4 * 256 + 8 * 1024 */
 
-/* nested_gcc_check's answer for a good book. */
+/* nested_gcc_check's answer for a good book, and nested_gcc_import_csv's for a text that it accepts. */
 #define NESTED_GCC_GOOD 0u
 
-/* The answers of the other functions for a good book. */
+/* The answers of the functions that close or settle, for a good book. */
 #define NESTED_GCC_LIVE 0u
 #define NESTED_GCC_DEAD 1u
 
-/* A refusal is NESTED_GCC_REFUSED + its number, 1 to 10. The answer is the first that applies in this
- * order: 1 to 4; 5 for the masks by slot; 6, 7, 8 for the first row, then for the next; 10; 9. A function
- * that refuses writes nothing; only nested_gcc_call puts its two words all the same. */
+/* A refusal is NESTED_GCC_REFUSED + its number: 1 to 10, 17, 18. The answer is the first that applies in this
+ * order: 1 to 4; 5 for the masks by slot; 6, 7, 8 for the first row, then for the next; 10; 9. That of
+ * nested_gcc_import_csv, which alone has 17 and 18, is: 17, 18 for the first record, then for the next; 2; 6, 7, 8 for
+ * the first row, then for the next; 9. A function that refuses writes nothing; only nested_gcc_call puts its two words
+ * all the same. */
 #define NESTED_GCC_REFUSED 256u
 #define NESTED_GCC_TOO_SHORT (NESTED_GCC_REFUSED + 1u)        /* book under 12 bytes */
 #define NESTED_GCC_OUT_OF_RANGE (NESTED_GCC_REFUSED + 2u)     /* n, k or r out of range */
@@ -104,6 +107,8 @@ uint32_t nested_gcc_version(void);
 #define NESTED_GCC_ROW_BOUND (NESTED_GCC_REFUSED + 8u)        /* lower above 256; upper above 256, not 65535 */
 #define NESTED_GCC_OUTPUT_TOO_SHORT (NESTED_GCC_REFUSED + 9u) /* an output too short; a slice of open_in not its size */
 #define NESTED_GCC_CALL_LIST (NESTED_GCC_REFUSED + 10u)       /* call list not whole calls, or too long */
+#define NESTED_GCC_QUOTING (NESTED_GCC_REFUSED + 17u)         /* quoting or a line end breaks RFC 4180 */
+#define NESTED_GCC_FIELD (NESTED_GCC_REFUSED + 18u)           /* wrong number of fields, or a field not 1 to 5 digits */
 
 /*
  * Whether the book_len bytes at book are a good book: NESTED_GCC_GOOD, or the refusal that comes first.
@@ -111,6 +116,43 @@ uint32_t nested_gcc_version(void);
  * Stack: at most 4 KiB.
  */
 uint32_t nested_gcc_check(const uint8_t *book, size_t book_len);
+
+/*
+ * Imports orders that stand in CSV (RFC 4180): writes the book that the text_len bytes at text say into the front of
+ * the book_len bytes at book. NESTED_GCC_BOOK_BYTES of these suffice for every text.
+ *
+ * The text is records, each ended by CRLF, which the last may lack; a record is fields, parted by commas. A field is
+ * bare, or stands in quotes as a whole: "12" is 12, and "" is empty. The first record is slots, types; each later one,
+ * of which there may be none, is a row: type, end, lower, upper, where an empty upper is no upper bound, as
+ * NESTED_GCC_NO_UPPER is. Every other field is one to five digits, with no blank; leading zeros are digits. A text
+ * without a byte is one record of one empty field, and is refused by 18.
+ *
+ * NESTED_GCC_GOOD: the text is accepted. Writes its book, 12 + 4 * slots + 8 * rows bytes: the text's slots and types,
+ *     every type in every mask, and the rows in the order of their records. That book is good for nested_gcc_check. It
+ *     may be dead: that is not looked at here, and 1 is never the answer.
+ * Refusals, by the first of these:
+ *     - for each record in turn, which is read to its end, 17, then 18.
+ *       17: a line end is not CRLF (a CR or LF alone, also at the end of the text); a quote in a bare field; a quote
+ *       that is not closed; something other than a comma or a line end behind one that is.
+ *       18: not 2 fields in the first record, or not 4 in a later one; a field that is not one to five digits and no
+ *       empty upper. A quote written twice in quotes, or a line end in them, is good quoting and no digit, hence 18.
+ *     - 2: slots, types or the number of rows out of range.
+ *     - for each row in turn 6, 7, 8, by the number that is written, which may be above 65535.
+ *     - 9: book_len is below the book's length.
+ *     The output is not touched.
+ * Bytes past the book stay as they are.
+ *
+ * The book's length stands in its bytes 10 and 11, which nested_gcc_book_length reads. Just so many bytes are to be
+ * lent to the other functions: they refuse a longer buffer that is lent whole by 4.
+ *
+ * Stack: at most 4 KiB.
+ */
+uint32_t nested_gcc_import_csv(const uint8_t *text, size_t text_len, uint8_t *book, size_t book_len);
+
+/* The length in bytes of a book that nested_gcc_import_csv wrote, or of any other good one: its bytes 10 and 11. */
+static inline size_t nested_gcc_book_length(const uint8_t *book) {
+    return (size_t)book[10] + 256u * (size_t)book[11];
+}
 
 /* The most bytes that nested_gcc_close writes into each output: 2 * 32 * (256 + 1). */
 #define NESTED_GCC_TABLE_BYTES 16448u
