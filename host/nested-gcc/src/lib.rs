@@ -7,7 +7,8 @@
 //!   from where it stands.
 //! - [`session`] makes a whole list of such calls from the book's opening, and gives an [`Answer`] to each call and the
 //!   last masks.
-//! - [`close_into`], [`settle_into`] and [`session_into`] write the same into the caller's bytes.
+//! - [`import_csv`] gives the book that orders in CSV say.
+//! - [`close_into`], [`settle_into`], [`session_into`] and [`import_csv_into`] write the same into the caller's bytes.
 //! - [`Book`] writes the bytes of a book, [`Calls`] those of a list of calls.
 //! - [`version`] says which version of the archive is linked.
 //!

@@ -4,7 +4,7 @@ use std::fmt;
 /// What an exported function adds to a refusal's number.
 const REFUSED: u32 = 256;
 
-/// Why a book, or what was lent with it, is refused. A single call of a session is refused with a
+/// Why a book, what was lent with it, or a text to import is refused. A single call of a session is refused with a
 /// [`CallRefusal`].
 ///
 /// ```
@@ -37,9 +37,9 @@ pub enum Refusal {
     /// 10: call list not whole calls, or over 16,384 bytes; [`Live::run`](crate::Live::run) takes longer ones, up to 2^63
     /// calls of a session.
     CallList,
-    /// 17: quoting or a line end breaks RFC 4180.
+    /// 17: quoting or a line end breaks RFC 4180. Line ends are CRLF.
     Quoting,
-    /// 18: a record with the wrong number of fields, or a field, other than an empty upper, not one to five digits.
+    /// 18: a record has the wrong number of fields, or a field, other than an empty upper, is not one to five digits.
     Field,
 }
 
