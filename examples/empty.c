@@ -15,7 +15,8 @@ static void print(const char *what, uint32_t answer) {
 }
 
 int main(void) {
-    uint8_t lowers[8], uppers[8], answers[8], masks[4] = { 0, 0, 0, 0 };
+    static const uint8_t text[] = { '1', ',', '2' };
+    uint8_t lowers[8], uppers[8], answers[8], masks[4] = { 0, 0, 0, 0 }, imported[sizeof book];
     print("check, no book", nested_gcc_check(NULL, 0));
     print("close, no book", nested_gcc_close(NULL, 0, lowers, sizeof lowers, uppers, sizeof uppers));
     print("close, no lowers", nested_gcc_close(book, sizeof book, NULL, 0, uppers, sizeof uppers));
@@ -37,5 +38,8 @@ int main(void) {
     print("step, no calls and no answers", nested_gcc_step(&state, NULL, 0, NULL, 0));
     print("step, a call and no answers", nested_gcc_step(&state, call, sizeof call, NULL, 0));
     printf("calls made: %u\n", (unsigned)nested_gcc_calls_made(&state));
+    print("import, no text", nested_gcc_import_csv(NULL, 0, imported, sizeof imported));
+    print("import, no text and no book", nested_gcc_import_csv(NULL, 0, NULL, 0));
+    print("import, no book", nested_gcc_import_csv(text, sizeof text, NULL, 0));
     return 0;
 }

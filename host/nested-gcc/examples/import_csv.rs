@@ -1,6 +1,5 @@
-//! Imports orders in CSV and prints what check, close and settle answer for their book: the file named as the argument, or
-//! data/orders.csv of the repository, `cargo run --release --example import_csv [FILE]`. It prints what
-//! `examples/import_csv.c` prints.
+//! Imports orders in CSV and prints what check, close and settle answer for their book, as `examples/import_csv.c`
+//! does: `cargo run --release --example import_csv [FILE]`. Without a file it takes data/orders.csv of the repository.
 
 use std::path::Path;
 use std::{env, fs, process};

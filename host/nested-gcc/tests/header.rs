@@ -1,11 +1,11 @@
-//! The sizes that `include/nested_gcc.h` names and those of this crate: every number is typed by hand.
+//! The sizes and the refusals that `include/nested_gcc.h` names and those of this crate: every number is typed by hand.
 
 mod defined;
 
-use defined::defined;
+use defined::{defined, HEADER};
 use nested_gcc::{
-    ANSWERS_BYTES, BOOK_BYTES, CALLS_BYTES, MARKS_MOST, MASKS_BYTES, NO_UPPER, ROWS_MOST, SLOTS_MOST,
-    TABLE_BYTES, TYPES_MOST,
+    CallRefusal, Refusal, ANSWERS_BYTES, BOOK_BYTES, CALLS_BYTES, MARKS_MOST, MASKS_BYTES, NO_UPPER,
+    ROWS_MOST, SLOTS_MOST, TABLE_BYTES, TYPES_MOST,
 };
 
 #[test]
@@ -24,6 +24,35 @@ fn the_sizes_are_the_same_in_the_header_and_here() {
     ];
     for (name, here, typed) in sizes {
         assert_eq!((defined(name), here), (typed, typed), "{name}");
+    }
+}
+
+#[test]
+fn the_refusals_are_the_same_in_the_header_and_here() {
+    let refusals = [
+        ("TOO_SHORT", Refusal::TooShort.number(), 1),
+        ("OUT_OF_RANGE", Refusal::OutOfRange.number(), 2),
+        ("RESERVED_BYTE", Refusal::ReservedByte.number(), 3),
+        ("LAYOUT", Refusal::Layout.number(), 4),
+        ("MASK", Refusal::Mask.number(), 5),
+        ("ROW_TYPE", Refusal::RowType.number(), 6),
+        ("ROW_END", Refusal::RowEnd.number(), 7),
+        ("ROW_BOUND", Refusal::RowBound.number(), 8),
+        ("OUTPUT_TOO_SHORT", Refusal::OutputTooShort.number(), 9),
+        ("CALL_LIST", Refusal::CallList.number(), 10),
+        ("CALL_KIND", CallRefusal::Kind.number(), 11),
+        ("CALL_SLOT", CallRefusal::Slot.number(), 12),
+        ("CALL_TYPE", CallRefusal::Type.number(), 13),
+        ("NO_OPEN_MARK", CallRefusal::NoOpenMark.number(), 14),
+        ("WHILE_DEAD", CallRefusal::WhileDead.number(), 15),
+        ("TOO_MANY_MARKS", CallRefusal::TooManyMarks.number(), 16),
+        ("QUOTING", Refusal::Quoting.number(), 17),
+        ("FIELD", Refusal::Field.number(), 18),
+    ];
+    assert_eq!(defined("NESTED_GCC_REFUSED"), 256);
+    for (name, here, typed) in refusals {
+        let line = format!("\n#define NESTED_GCC_{name} (NESTED_GCC_REFUSED + {typed}u) ");
+        assert_eq!((HEADER.matches(&line).count(), here), (1, typed), "{name}");
     }
 }
 

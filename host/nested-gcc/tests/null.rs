@@ -48,6 +48,7 @@ extern "C" {
         record_len: usize,
     ) -> u32;
     fn nested_gcc_check(book: *const u8, book_len: usize) -> u32;
+    fn nested_gcc_import_csv(text: *const u8, text_len: usize, book: *mut u8, book_len: usize) -> u32;
     fn nested_gcc_close(
         book: *const u8,
         book_len: usize,
@@ -85,6 +86,31 @@ const OLD: u8 = 0xa5;
 fn check_without_a_book() {
     // SAFETY: no byte is lent.
     assert_eq!(unsafe { nested_gcc_check(null(), 0) }, 257);
+}
+
+/// `nested_gcc_import_csv` with `None` as NULL and 0, and what it left in the output if that is lent.
+fn import_csv(text: Option<&[u8]>, with_book: bool) -> (u32, [u8; 17]) {
+    let mut book = [OLD; 17];
+    let (book_at, book_len) = if with_book { (book.as_mut_ptr(), 17) } else { (null_mut(), 0) };
+    let (text_at, text_len) = text.map_or((null(), 0), |text| (text.as_ptr(), text.len()));
+    // SAFETY: each pointer has so many bytes, apart from the other, or is NULL with length 0.
+    let answer = unsafe { nested_gcc_import_csv(text_at, text_len, book_at, book_len) };
+    (answer, book)
+}
+
+#[test]
+fn import_csv_with_null() {
+    let old = [OLD; 17];
+    // 18: a text without a byte is one empty field, whether there is room for a book or not.
+    assert_eq!(import_csv(None, false), (274, old));
+    assert_eq!(import_csv(None, true), (274, old));
+    // 9: there is no room for the book. The other numbers come before it.
+    assert_eq!(import_csv(Some(b"1,2"), false), (265, old));
+    assert_eq!(import_csv(Some(b"1,\"2"), false), (273, old));
+    assert_eq!(import_csv(Some(b"1,33"), false), (258, old));
+    // Nothing NULL: the book LIVE.
+    let (answer, book) = import_csv(Some(b"1,2"), true);
+    assert_eq!((answer, &book[..16], book[16]), (0, &LIVE[..], OLD));
 }
 
 /// `nested_gcc_close` with `None` as NULL and 0, and what it left in the outputs that are lent.

@@ -1,5 +1,6 @@
-//! The import examples: what `examples/import_csv.c` and `host/nested-gcc/examples/import_csv.rs` print is held to the file
-//! examples/import_csv.expected, and that file here to the second filter, on the orders of data/orders.csv typed by hand.
+//! The import examples: what `examples/import_csv.c` and `host/nested-gcc/examples/import_csv.rs` print is held to the
+//! file examples/import_csv.expected, and that file here to the second filter, on the orders of data/orders.csv typed
+//! by hand.
 
 #[path = "../examples/import_csv.rs"]
 mod import_csv;

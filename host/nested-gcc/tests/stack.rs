@@ -9,8 +9,8 @@ use std::ptr;
 use std::thread;
 
 use nested_gcc::{
-    check, close_into, session_into, settle_into, Book, CallRefusal, Calls, Decided, Live, Refusal, Standing,
-    Verdict, ANSWERS_BYTES, MASKS_BYTES, TABLE_BYTES,
+    check, close_into, import_csv_into, session_into, settle_into, Book, CallRefusal, Calls, Decided, Live,
+    Refusal, Standing, Verdict, ANSWERS_BYTES, BOOK_BYTES, MASKS_BYTES, TABLE_BYTES,
 };
 use random_books::{bytes, masks_around, near_plan, plan, Random};
 
@@ -19,6 +19,7 @@ const BOOKS: usize = 1_000;
 
 // What include/nested_gcc.h says that this test holds.
 const CHECK: usize = 4 * 1024;
+const IMPORT: usize = 4 * 1024;
 const CLOSE: usize = 48 * 1024;
 const SETTLE: usize = 320 * 1024;
 const SESSION: usize = 512 * 1024;
@@ -99,7 +100,7 @@ fn bytes_needed(call: &mut dyn FnMut()) -> Needed {
     Needed { call: task.frame - (bottom + untouched), thread: STACK - untouched }
 }
 
-/// Runs `call` on each book: it answers what is expected, and needs no more stack than is promised.
+/// Runs `call` on each book, or text: it answers what is expected, and needs no more stack than is promised.
 fn measure<T: PartialEq + Debug>(
     promised: usize,
     mut call: impl FnMut(&[u8]) -> T,
@@ -134,6 +135,37 @@ fn check_needs_at_most_the_promised_stack() {
         ("no bytes", Vec::new(), Err(Refusal::TooShort)),
     ];
     measure(CHECK, check, &books);
+}
+
+/// The text of 256 slots, 32 types and 1023 rows, each field of five digits in quotes, and then of `last`.
+fn almost_longest_text(last: &str) -> Vec<u8> {
+    let row = "\"00031\",\"00256\",\"00008\",\"00256\"\r\n";
+    format!("\"00256\",\"00032\"\r\n{}{last}", row.repeat(1023)).into_bytes()
+}
+
+#[test]
+fn import_csv_needs_at_most_the_promised_stack() {
+    let row = "31,256,8,\r\n";
+    let texts = [
+        ("import: the longest book", almost_longest_text(row), Ok(9228)),
+        ("import: a fault in the last row", almost_longest_text("31,256,257,"), Err(Refusal::RowBound)),
+        ("import: a row too many", almost_longest_text(&row.repeat(2)), Err(Refusal::OutOfRange)),
+        (
+            "import: 100,000 rows too many",
+            almost_longest_text(&row.repeat(100_001)),
+            Err(Refusal::OutOfRange),
+        ),
+        ("import: 100,000 fields", vec![b','; 99_999], Err(Refusal::Field)),
+        ("import: a field of 100,000 quotes", vec![b'"'; 100_000], Err(Refusal::Field)),
+        ("import: a field of 99,999 quotes", vec![b'"'; 99_999], Err(Refusal::Quoting)),
+        ("import: 100,000 line ends", b"\r\n".repeat(100_000), Err(Refusal::Field)),
+        ("import: the shortest text", b"1,1".to_vec(), Ok(16)),
+        ("import: no bytes", Vec::new(), Err(Refusal::Field)),
+    ];
+    let mut book = vec![0; BOOK_BYTES];
+    measure(IMPORT, |text| import_csv_into(text, &mut book), &texts);
+    let short = [("import: an output too short", almost_longest_text(row), Err(Refusal::OutputTooShort))];
+    measure(IMPORT, |text| import_csv_into(text, &mut book[1..]), &short);
 }
 
 #[test]
