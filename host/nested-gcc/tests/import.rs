@@ -140,6 +140,31 @@ fn an_imported_book_is_as_good_as_a_written_one() {
     assert_eq!(settle(&book(b"3,2\r\n1,1,1,")), Ok(Some(vec![0b10, 0b11, 0b11])));
 }
 
+/// The examples of docs/SPECIFICATION.md, 13.11.
+#[test]
+fn examples_of_the_table() {
+    let m8 = Book::new(3, 2).row(0, 2, 1, None).to_bytes();
+    assert_eq!(book(b"3,2\r\n0,2,1,\r\n"), m8);
+    assert_eq!(book(b"\"3\",\"02\"\r\n0,2,1,\"\""), m8);
+    let cases = [
+        (&b""[..], Refusal::Field),
+        (b"3,2\r\n\r\n", Refusal::Field),
+        (b"3,2\n", Refusal::Quoting),
+        (b"3,\"2\"2", Refusal::Quoting),
+        (b"3,\"2\"\"2\"", Refusal::Field),
+        (b"x,y,\"", Refusal::Quoting),
+        (b"x,2\r\n\"", Refusal::Field),
+        (b"3,002048", Refusal::Field),
+        (b"65537,2", Refusal::OutOfRange),
+        (b"3,2\r\n256,2,1,", Refusal::RowType),
+        (b"3,2\r\n0,65537,1,", Refusal::RowEnd),
+        (b"3,2\r\n0,2,1,65536", Refusal::RowBound),
+    ];
+    for (text, refusal) in cases {
+        assert_eq!(import_csv(text), Err(refusal), "{:?}", String::from_utf8_lossy(text));
+    }
+}
+
 /// 17 is for quoting and line ends alone: any other byte that is no digit is 18. 10 to 19 slots are good.
 #[test]
 fn bytes_that_are_no_digits() {
