@@ -154,7 +154,7 @@ fn examples_of_the_table() {
         (b"3,\"2\"\"2\"", Refusal::Field),
         (b"x,y,\"", Refusal::Quoting),
         (b"x,2\r\n\"", Refusal::Field),
-        (b"3,002048", Refusal::Field),
+        (b"3,000002", Refusal::Field),
         (b"65537,2", Refusal::OutOfRange),
         (b"3,2\r\n256,2,1,", Refusal::RowType),
         (b"3,2\r\n0,65537,1,", Refusal::RowEnd),
