@@ -8,15 +8,18 @@
 //! - [`settle`]: the largest stable list, or dead.
 //! - [`Machine`]: the plain machine of sessions, call by call.
 //! - [`Kept`]: a kept session, the plain machine with the number of calls made and the standing.
+//! - [`import_csv`]: the book that a CSV text orders, or the number of its refusal.
 
 mod book;
 mod closing;
+mod csv;
 mod kept;
 mod machine;
 mod settling;
 
 pub use book::{refusal, Book, Row};
 pub use closing::{close, start, Closing, Table};
+pub use csv::import_csv;
 pub use kept::{Kept, Standing};
 pub use machine::{Machine, Walls};
 pub use settling::{settle, Death, Settling};
