@@ -1,8 +1,8 @@
 //! The plain import of orders as CSV: RFC 4180 text to the bytes of a book.
 //!
-//! The text is cut by the parity of quotes: a line end or a comma with an even number of quotes before it stands outside
-//! of quotes. In good quoting every field has an even number of quotes, so these cuts are the text's own; and where
-//! quoting breaks, the records before are cut as they should be, and one of the pieces is no field.
+//! The text is cut by the parity of quotes: a line end or a comma with an even number of quotes before it stands
+//! outside of quotes. In good quoting every field has an even number of quotes, so these cuts are the text's own;
+//! where quoting breaks, the records before are cut as they should be, and one of the pieces is no field.
 
 /// The line end of RFC 4180.
 const LINE_END: &[u8] = b"\r\n";
@@ -50,8 +50,8 @@ pub fn import_csv(text: &[u8], book_len: usize) -> Result<Vec<u8>, u32> {
     Ok(book)
 }
 
-/// The text cut at its line ends outside of quotes. The last record may lack its line end: what follows the last line end
-/// is a record unless it is empty. Empty text is one record.
+/// The text cut at its line ends outside of quotes. The last record may lack its line end: what follows the last
+/// line end is a record unless it is empty. Empty text is one record.
 fn records(text: &[u8]) -> Vec<&[u8]> {
     let mut records = cut_outside_quotes(text, LINE_END);
     if records.len() > 1 && records.last().is_some_and(|last| last.is_empty()) {
@@ -79,8 +79,9 @@ fn contents(record: &[u8]) -> Option<Vec<Vec<u8>>> {
     cut_outside_quotes(record, COMMA).into_iter().map(content).collect()
 }
 
-/// A field is bare, with no quote, carriage return or line feed, and is its content; or it is between two quotes, and
-/// each two quotes between them are one of the content, where no quote stands alone. Any other byte may stand in either.
+/// A field is bare, with no quote, carriage return or line feed, and is its content; or it is between two quotes,
+/// and each two quotes between them are one of the content, where no quote stands alone. Any other byte may stand in
+/// either.
 fn content(field: &[u8]) -> Option<Vec<u8>> {
     match field {
         [QUOTE, inner @ .., QUOTE] => undoubled(inner),
@@ -89,8 +90,8 @@ fn content(field: &[u8]) -> Option<Vec<u8>> {
     }
 }
 
-/// The bytes with one quote for each two; `None` if a quote stands alone. Of the pieces between the quotes, each second one
-/// lies between two quotes that go together, and is empty.
+/// The bytes with one quote for each two; `None` if a quote stands alone. Of the pieces between the quotes, each
+/// second one lies between two quotes that go together, and is empty.
 fn undoubled(inner: &[u8]) -> Option<Vec<u8>> {
     let pieces: Vec<&[u8]> = inner.split(|&byte| byte == QUOTE).collect();
     let even = pieces.len() % 2 == 1;
@@ -98,8 +99,8 @@ fn undoubled(inner: &[u8]) -> Option<Vec<u8>> {
     (even && together).then(|| pieces.into_iter().step_by(2).collect::<Vec<_>>().join(&QUOTE))
 }
 
-/// The numbers of a record of N fields: each content is one to five digits, leading zeros among them, or it is an upper,
-/// the fourth, and is empty. `None` if there are more or fewer, or a content is no such thing.
+/// The numbers of a record of N fields: each content is one to five digits, leading zeros among them, or it is an
+/// upper, the fourth, and is empty. `None` if there are more or fewer, or a content is no such thing.
 fn numbers<const N: usize>(contents: &[Vec<u8>]) -> Option<[u64; N]> {
     let number = |(at, content): (usize, &Vec<u8>)| match content.len() {
         0 if at == 3 => Some(NO_UPPER),

@@ -1,5 +1,5 @@
-//! The plain import of CSV on texts with every answer found by hand: what a field is, where a record ends, each number, and
-//! the bytes of the book.
+//! The plain import of CSV on texts with every answer found by hand: what a field is, where a record ends, each
+//! number, and the bytes of the book.
 
 use plain_filter::{import_csv, Book, Row};
 
