@@ -1,10 +1,11 @@
 //! Times the proved filter against plain ones, on the same random books in one run:
-//! `cargo run --release -p bench`, or with `-- close`, `-- settle` or `-- session` for one of them. With
-//! `-- replay FOLDER NAME..` it replays call scripts from files (see `replay.rs`). It prints ratios of medians; the
-//! times beside them are this machine's, at this moment.
+//! `cargo run --release -p bench`, or with `-- close`, `-- settle`, `-- session` or `-- import` for one of them. With
+//! `-- replay FOLDER NAME..` it replays call scripts from files (see `replay.rs`). It prints ratios of medians, of
+//! imports those of least times; the times beside them are this machine's, at this moment.
 
 mod bounds;
 mod engine;
+mod import;
 mod in_place;
 mod lanes;
 mod opening;
@@ -183,6 +184,9 @@ fn main() {
     }
     if asked("session") {
         session::run();
+    }
+    if asked("import") {
+        import::run();
     }
 }
 
