@@ -23,7 +23,15 @@
  * - after every piece the bytes about the state and the masks past the n-th are as they were, and what the state says
  *   of itself (sizes, calls made, standing, marks) follows from the words so far;
  * - the words and the last masks are those of session where it took the list, and the same both times where not.
- * With -DSHAM=1 to 12 a wrong library is judged, and must be found out: see the functions `sham` below.
+ * Then a text goes through import: twice as the entries do, and once with an output that has room for every book. What
+ * must hold:
+ * - the answer is one of import's, and the one that the making of the text says where it does; with more room it is the
+ *   same, but for 9, which is answered exactly where the book is longer than the output;
+ * - the book is written to the front of the output and nothing else is, on a refusal nothing; the text is kept;
+ * - both runs answer and write the same;
+ * - check takes the book, all its masks are full, it is the one that the text was made from, if it was; and its own
+ *   records, written plainly, import as the same book.
+ * With -DSHAM=1 to 19 a wrong library is judged, and must be found out: see the functions `sham` below.
  */
 #define _DEFAULT_SOURCE
 #include "nested_gcc.h"
@@ -41,6 +49,7 @@
 #define CALLS_ROOM (5 * PAGE)    /* more than NESTED_GCC_CALLS_BYTES */
 #define TABLE_ROOM (5 * PAGE)    /* NESTED_GCC_TABLE_BYTES and more */
 #define ANSWERS_ROOM (9 * PAGE)  /* NESTED_GCC_ANSWERS_BYTES and more */
+#define TEXT_ROOM (10 * PAGE)    /* more than 1030 records of the longest fields */
 
 #ifndef SHAM
 #define SHAM 0
@@ -100,7 +109,7 @@ struct region {
     size_t size;
 };
 
-static struct region book_region, calls_region, first_region, second_region;
+static struct region book_region, calls_region, first_region, second_region, text_region;
 
 static struct region new_region(size_t size) {
     struct region region;
@@ -155,7 +164,14 @@ struct input {
     uint8_t book[BOOK_ROOM], calls[CALLS_ROOM];
     size_t book_length, calls_length;
     size_t lowers_length, uppers_length, masks_length, answers_length, last_masks_length;
+    uint8_t text[TEXT_ROOM];
+    size_t text_length, imported_length;
+    uint32_t expected;           /* import's answer, given room, or ANY_ANSWER if the making does not say */
+    uint8_t ordered[BOOK_ROOM];  /* the book, if that answer is 0 */
+    size_t ordered_length;
 };
+
+#define ANY_ANSWER 1u /* import never answers this */
 
 static unsigned book_slots(const struct input *input) { return input->book[0] + 256u * input->book[1]; }
 static unsigned book_types(const struct input *input) { return input->book[2]; }
@@ -566,12 +582,119 @@ static void judge_kept(const struct input *input) {
         fail("other words in other pieces");
 }
 
+/* ---- an import ---- */
+
+static const uint32_t import_answers[] = { 0, 258, 262, 263, 264, 265, 273, 274 };
+#define IMPORT_ANSWERS (sizeof import_answers / sizeof *import_answers)
+
+static unsigned import_place(uint32_t answer) {
+    unsigned place;
+    for (place = 0; place < IMPORT_ANSWERS; place++) {
+        if (import_answers[place] == answer) return place;
+    }
+    fail("import answers %u", (unsigned)answer);
+    return 0;
+}
+
+/* The length that a written book says it has. */
+static size_t written_length(const uint8_t *book) { return half(book, 5); }
+
+/* What the library does, or with SHAM a library that is wrong in one way. */
+static uint32_t sham_import(struct lent text, struct lent book) {
+    uint32_t answer;
+    size_t length;
+    volatile uint8_t beyond = 0;
+    if (SHAM == 13) beyond = text.at[text.length];                    /* reads past the text */
+    if (SHAM == 14 && book.length > 0 && book.at[0] & 64) return 265; /* reads the output */
+    (void)beyond;
+    answer = nested_gcc_import_csv(text.at, text.length, book.at, book.length);
+    length = answer == 0 ? written_length(book.at) : 0;
+    if (SHAM == 15 && answer == 0 && length < book.length) book.at[length] ^= 1;        /* one byte past the book */
+    if (SHAM == 16 && answer == 274 && book.length > 0) book.at[0] ^= 1;                /* refused, yet writes */
+    if (SHAM == 17 && answer == 0 && half(book.at, 2) > 0) book.at[length - 4] ^= 1;    /* another lower */
+    if (SHAM == 18 && answer == 273) return 274;                                        /* no 17 */
+    if (SHAM == 19 && answer >= 262 && answer <= 264 && book.length < 12) return 265; /* the output before the rows */
+    return answer;
+}
+
+/* Imports the text once into an output of that length; the bytes outside of what the answer writes must be kept. */
+static void import_once(const uint8_t *bytes, size_t length, size_t room, int pass, struct outcome *outcome) {
+    struct lent text = lend(text_region, length, pass, 33), book = lend(first_region, room, pass, pass == 0 ? 5 : 200);
+    memcpy(text.at, bytes, length);
+    if (number % 8 == 0) paint_stack(pass == 0 ? 0 : 255);
+    outcome->answer = sham_import(text, book);
+    outcome->first_written = 0;
+    if (outcome->answer == 0) {
+        if (room < 12 || written_length(book.at) > room) fail("import answers 0 for an output of %zu bytes", room);
+        outcome->first_written = written_length(book.at);
+    }
+    must_be_kept(&text, length, "beside the text");
+    must_be_kept(&book, outcome->first_written, "imported book");
+    if (memcmp(text.at, bytes, length) != 0) fail("import wrote to the text");
+    memcpy(outcome->first, book.at, outcome->first_written);
+}
+
+/* The records of a good book, each field as it is, an upper that is none empty; their length. */
+static size_t put_records(uint8_t *text, const uint8_t *book) {
+    unsigned n = half(book, 0), r = half(book, 2), i;
+    char *at = (char *)text;
+    at += sprintf(at, "%u,%u\r\n", n, book[2]);
+    for (i = 0; i < r; i++) {
+        const uint8_t *row = book + 12 + 4 * n + 8 * i;
+        at += sprintf(at, "%u,%u,%u,", row[0], half(row, 1), half(row, 2));
+        if (half(row, 3) != NESTED_GCC_NO_UPPER) at += sprintf(at, "%u", half(row, 3));
+        at += sprintf(at, "\r\n");
+    }
+    return (size_t)(at - (char *)text);
+}
+
+static struct outcome imported;
+
+/* An imported book: check takes it, its masks are full, and its own records import as the same book. */
+static void judge_imported(const struct outcome *whole) {
+    static uint8_t records[TEXT_ROOM];
+    const uint8_t *book = whole->first;
+    size_t slot;
+    if (nested_gcc_check(book, whole->first_written) != 0) fail("check refuses the imported book");
+    for (slot = 0; slot < half(book, 0); slot++) {
+        if (word(book + 12, slot) != 0xffffffffu >> (32 - book[2])) fail("the mask of slot %zu is not full", slot);
+    }
+    import_once(records, put_records(records, book), whole->first_written, 1, &again);
+    if (again.answer != 0 || again.first_written != whole->first_written ||
+        memcmp(again.first, book, again.first_written) != 0)
+        fail("the records of the imported book give another book");
+}
+
+static void judge_import(const struct input *input) {
+    static struct outcome whole;
+    uint32_t expected;
+    import_once(input->text, input->text_length, input->imported_length, 0, &imported);
+    import_once(input->text, input->text_length, input->imported_length, 1, &again);
+    if (imported.answer != again.answer || imported.first_written != again.first_written ||
+        memcmp(imported.first, again.first, again.first_written) != 0)
+        fail("import: another answer, or another book, the second time");
+    import_place(imported.answer);
+    import_once(input->text, input->text_length, NESTED_GCC_BOOK_BYTES, 0, &whole);
+    expected = whole.answer == 0 && whole.first_written > input->imported_length ? 265 : whole.answer;
+    if (whole.answer == 265 || imported.answer != expected)
+        fail("import answers %u, and %u with more room", (unsigned)imported.answer, (unsigned)whole.answer);
+    if (imported.answer == 0 && memcmp(imported.first, whole.first, whole.first_written) != 0)
+        fail("import writes another book with more room");
+    if (input->expected != ANY_ANSWER && whole.answer != input->expected)
+        fail("import answers %u, and not %u", (unsigned)whole.answer, (unsigned)input->expected);
+    if (input->expected == 0 && (whole.first_written != input->ordered_length ||
+                                 memcmp(whole.first, input->ordered, input->ordered_length) != 0))
+        fail("import writes another book than the text was made from");
+    if (whole.answer == 0) judge_imported(&whole);
+}
+
 static void judge(const struct input *input) {
     int entry;
     for (entry = CHECK; entry < ENTRIES; entry++) run_twice((enum entry)entry, input);
     judge_answers(input);
     judge_outputs(input);
     judge_kept(input);
+    judge_import(input);
 }
 
 static void make_regions(void) {
@@ -580,6 +703,7 @@ static void make_regions(void) {
     calls_region = new_region(CALLS_ROOM);
     first_region = new_region(ANSWERS_ROOM);
     second_region = new_region(TABLE_ROOM);
+    text_region = new_region(TEXT_ROOM);
     state_region = new_region(STATE_ROOM);
     for (i = 0; i < STATE_ROOM; i++) {
         state_paints[0][i] = (uint8_t)(11 + 167 * i);
@@ -757,6 +881,209 @@ static unsigned make_room(struct input *input) {
     return kind;
 }
 
+/* ---- texts ---- */
+
+/* What a text orders: numbers as they are to be written, in range or not. */
+struct orders {
+    unsigned n, k, r;
+    struct { unsigned type, end, lower, upper; } rows[1030];
+};
+
+/* Good orders, for a small book or a large one. */
+static void good_orders(struct orders *orders, int large) {
+    unsigned i;
+    orders->n = large ? between(250, 256) : between(1, 12);
+    orders->k = below(4) == 0 ? between(31, 32) : between(1, 6);
+    orders->r = large ? between(1000, 1024) : below(8);
+    for (i = 0; i < orders->r; i++) {
+        unsigned end = between(1, orders->n);
+        orders->rows[i].type = below(orders->k);
+        orders->rows[i].end = end;
+        orders->rows[i].lower = below(8) == 0 ? between(0, 256) : below(end + 1);
+        orders->rows[i].upper = below(4) == 0 ? NESTED_GCC_NO_UPPER : below(8) == 0 ? between(0, 256) : below(end + 1);
+    }
+}
+
+/* One number set to a limit, or past it. */
+static void past_a_limit(struct orders *orders) {
+    static const unsigned limits[] = { 0, 1, 31, 32, 33, 255, 256, 257, 65534, 65535, 65536, 65537, 99999 };
+    unsigned limit = limits[below(sizeof limits / sizeof *limits)], row = below(orders->r + 1);
+    if (below(3) == 0) limit = below(2) == 0 ? orders->n + below(2) : orders->k + below(2);
+    if (row == orders->r) {
+        if (below(2) == 0) orders->n = limit;
+        else orders->k = limit;
+        return;
+    }
+    switch (below(4)) {
+    case 0: orders->rows[row].type = limit; break;
+    case 1: orders->rows[row].end = limit; break;
+    case 2: orders->rows[row].lower = limit; break;
+    default: orders->rows[row].upper = limit;
+    }
+}
+
+/* What import answers, given room. */
+static uint32_t answer_of(const struct orders *orders) {
+    unsigned i;
+    if (orders->n < 1 || orders->n > 256 || orders->k < 1 || orders->k > 32 || orders->r > 1024) return 258;
+    for (i = 0; i < orders->r; i++) {
+        unsigned upper = orders->rows[i].upper;
+        if (orders->rows[i].type >= orders->k) return 262;
+        if (orders->rows[i].end < 1 || orders->rows[i].end > orders->n) return 263;
+        if (orders->rows[i].lower > 256 || (upper > 256 && upper != NESTED_GCC_NO_UPPER)) return 264;
+    }
+    return 0;
+}
+
+/* The book of good orders. */
+static void put_ordered(struct input *input, const struct orders *orders) {
+    unsigned i;
+    input->ordered_length = put_header(input->ordered, orders->n, orders->k, orders->r);
+    for (i = 0; i < orders->n; i++) put_word(input->ordered + 12 + 4 * i, 0xffffffffu >> (32 - orders->k));
+    for (i = 0; i < orders->r; i++)
+        put_row(input->ordered, orders->n, i, orders->rows[i].type, orders->rows[i].end, orders->rows[i].lower,
+                orders->rows[i].upper);
+}
+
+static void put_bytes(struct input *input, const char *bytes) {
+    while (*bytes != 0) input->text[input->text_length++] = (uint8_t)*bytes++;
+}
+
+/* A field and what follows it, quoted and with leading zeros in so many of eight cases. An upper that is none is
+ * empty in every second case. */
+static void put_field(struct input *input, unsigned field, int is_upper, const char *then, unsigned quoted,
+                      unsigned zeros) {
+    char digits[16] = "";
+    int quote = below(8) < quoted;
+    if (!(is_upper && field == NESTED_GCC_NO_UPPER && below(2) == 0))
+        sprintf(digits, "%0*u", below(8) < zeros ? (int)between(1, 5) : 1, field);
+    if (quote) put_bytes(input, "\"");
+    put_bytes(input, digits);
+    if (quote) put_bytes(input, "\"");
+    put_bytes(input, then);
+}
+
+static void put_text(struct input *input, const struct orders *orders) {
+    static const uint8_t eighths[] = { 0, 0, 1, 4, 8 };
+    unsigned quoted = eighths[below(5)], zeros = eighths[below(5)], i;
+    input->text_length = 0;
+    put_field(input, orders->n, 0, ",", quoted, zeros);
+    put_field(input, orders->k, 0, "", quoted, zeros);
+    for (i = 0; i < orders->r; i++) {
+        put_bytes(input, "\r\n");
+        put_field(input, orders->rows[i].type, 0, ",", quoted, zeros);
+        put_field(input, orders->rows[i].end, 0, ",", quoted, zeros);
+        put_field(input, orders->rows[i].lower, 0, ",", quoted, zeros);
+        put_field(input, orders->rows[i].upper, 1, "", quoted, zeros);
+    }
+    if (below(2) == 0) put_bytes(input, "\r\n");
+}
+
+/* Puts `bytes` in the place of the `length` bytes at `at`. */
+static void replace(struct input *input, size_t at, size_t length, const void *bytes, size_t count) {
+    if (input->text_length - length + count > TEXT_ROOM - GUARD) return;
+    memmove(input->text + at + count, input->text + at + length, input->text_length - at - length);
+    memcpy(input->text + at, bytes, count);
+    input->text_length += count - length;
+}
+
+/* The place of one of the text's digits. */
+static size_t some_digit(const struct input *input) {
+    size_t at = below((unsigned)input->text_length);
+    while (input->text[at] < '0' || input->text[at] > '9') at = (at + 1) % input->text_length;
+    return at;
+}
+
+/* The place of one of the text's line ends, or the text's length if it has none. */
+static size_t some_line_end(const struct input *input) {
+    size_t from = below((unsigned)input->text_length), i;
+    for (i = 0; i < input->text_length; i++) {
+        size_t at = (from + i) % input->text_length;
+        if (input->text[at] == '\r') return at;
+    }
+    return input->text_length;
+}
+
+/* Breaks a line end or the quoting of a good text. A quote more makes their number odd: as it stands after a digit, the
+ * field that it is in ends with it, or else not before a quote that a digit follows. */
+static void break_quoting(struct input *input) {
+    size_t end = some_line_end(input);
+    unsigned kind = below(3);
+    if (kind == 0) replace(input, some_digit(input) + 1, 0, "\"", 1);
+    else if (end == input->text_length) replace(input, end, 0, kind == 1 ? "\r" : "\n", 1);
+    else replace(input, end, 2, kind == 1 ? "\r" : "\n", 1);
+}
+
+/* Makes a field of a good text no number, or its record longer. */
+static void break_field(struct input *input) {
+    static const char others[] = { 'x', ' ', '\t', '-', '.', ';', '/', ':', 0, (char)128, (char)255 };
+    unsigned kind = below(3);
+    if (kind == 0) replace(input, some_digit(input), 1, others + below(sizeof others), 1);
+    if (kind == 1) replace(input, some_digit(input), 0, "00000", 5);
+    if (kind == 2) replace(input, some_line_end(input), 0, ",", 1);
+}
+
+static const char *const text_kinds[] = {
+    "random bytes", "bytes that texts are made of", "a good text", "a good text of many rows", "a number past a limit",
+    "more rows than may be", "a good text, quoting broken", "a good text, a field broken",
+    "a good text, 1 to 4 bytes changed", "a good text, cut short", "a good text, a stretch of it twice"
+};
+#define TEXT_KINDS (sizeof text_kinds / sizeof *text_kinds)
+
+static unsigned make_text(struct input *input) {
+    static const char alphabet[] = "0123456789,,,,,,\"\"\"\"\r\nx";
+    static const uint8_t kinds[] = { 0, 1, 1, 2, 2, 2, 3, 4, 4, 4, 6, 7, 8, 8, 9, 10 };
+    static struct orders orders;
+    unsigned kind = kinds[below(sizeof kinds)], i;
+    int large = kind == 3 && below(8) == 0;
+    if (kind == 3 && !large) kind = 2; /* large texts are few, since they take long */
+    good_orders(&orders, large || below(500) == 0);
+    if (large && below(2) == 0) {
+        kind = 5;
+        for (i = 1; i < 1030; i++) orders.rows[i] = orders.rows[0];
+        orders.r = between(1025, 1030);
+    }
+    if (kind == 4) past_a_limit(&orders);
+    put_text(input, &orders);
+    input->expected = kind >= 8 ? ANY_ANSWER : kind == 7 ? 274 : kind == 6 ? 273 : answer_of(&orders);
+    if (input->expected == 0) put_ordered(input, &orders);
+    input->imported_length = 12 + 4 * (orders.n % 257) + 8 * (orders.r % 1025);
+    if (kind == 6) break_quoting(input);
+    if (kind == 7) break_field(input);
+    for (i = between(1, 4); i > 0 && kind == 8; i--)
+        input->text[below((unsigned)input->text_length)] =
+            (uint8_t)(below(2) == 0 ? below(256) : (unsigned)alphabet[below(sizeof alphabet - 1)]);
+    if (kind == 9) input->text_length = below((unsigned)input->text_length);
+    if (kind == 10) {
+        uint8_t stretch[16];
+        size_t at = below((unsigned)input->text_length), length = between(1, sizeof stretch);
+        if (length > input->text_length - at) length = input->text_length - at;
+        memcpy(stretch, input->text + at, length);
+        replace(input, at, 0, stretch, length);
+    }
+    if (kind < 2) {
+        input->expected = ANY_ANSWER;
+        input->text_length = 0;
+        for (i = below(kind == 0 ? 20 : 40); i > 0; i--) {
+            if (kind == 1 && below(8) == 0) put_bytes(input, "\r\n");
+            else input->text[input->text_length++] =
+                (uint8_t)(kind == 0 ? below(256) : (unsigned)alphabet[below(sizeof alphabet - 1)]);
+        }
+    }
+    return kind;
+}
+
+static const char *const import_room_kinds[] = { "as long as the book", "longer", "shorter", "any length" };
+
+/* From the length of the book, or of what it was before the text was damaged, that of the output. */
+static unsigned make_import_room(struct input *input) {
+    unsigned kind = (unsigned)"\0\0\0\1\1\2\3"[below(7)];
+    if (kind == 1) input->imported_length += below(11);
+    if (kind == 2) input->imported_length -= between(1, 9);
+    if (kind == 3) input->imported_length = below(40 + (unsigned)input->imported_length);
+    return kind;
+}
+
 /* ---- counts ---- */
 
 #define ANSWERS 12 /* 0, 1, 257 to 266 */
@@ -764,6 +1091,7 @@ static unsigned make_room(struct input *input) {
 static unsigned long by_book[BOOK_KINDS][ANSWERS], by_entry[ENTRIES][ANSWERS];
 static unsigned long by_calls[CALL_KINDS][3], by_room[ROOM_KINDS][3];
 static unsigned long first_words[16]; /* 0 to 3, then 267 to 272 from 4 on */
+static unsigned long by_text[TEXT_KINDS][IMPORT_ANSWERS], by_import_room[ROOM_KINDS][IMPORT_ANSWERS];
 
 static unsigned answer_place(uint32_t answer) { return answer < 2 ? answer : answer - 255; }
 static unsigned verdict_place(uint32_t answer) { return answer < 2 ? answer : 2; }
@@ -806,6 +1134,7 @@ static void print_counts(void) {
                                            "261", "262", "263", "264", "265", "266" };
     static const char *const verdicts[] = { "opened live", "opened dead", "refused" };
     static const char *const words[] = { "0", "1", "2", "3", "267", "268", "269", "270", "271", "272" };
+    static const char *const of_import[] = { "0", "258", "262", "263", "264", "265", "273", "274" };
     size_t i;
     print_head("answers of", answers, ANSWERS);
     for (i = 0; i < ENTRIES; i++) print_line(entry_names[i], by_entry[i], ANSWERS);
@@ -821,6 +1150,10 @@ static void print_counts(void) {
     print_line("count", first_words, 10);
     printf("\nBeside their steps the kept sessions made %lu single calls, and were moved to another place %lu times.\n",
            single_calls, moves);
+    print_head("import's answers by kind of text", of_import, IMPORT_ANSWERS);
+    for (i = 0; i < TEXT_KINDS; i++) print_line(text_kinds[i], by_text[i], IMPORT_ANSWERS);
+    print_head("import's answers by output", of_import, IMPORT_ANSWERS);
+    for (i = 0; i < ROOM_KINDS; i++) print_line(import_room_kinds[i], by_import_room[i], IMPORT_ANSWERS);
 }
 
 int main(int argc, char **argv) {
@@ -836,13 +1169,17 @@ int main(int argc, char **argv) {
     watch_signals();
     make_regions();
     for (number = first; number < first + count_of_inputs; number++) {
-        unsigned book, calls, room;
+        unsigned book, calls, room, text, import_room;
         state = seed * 0x2545f4914f6cdd1du + number * 0xd1342543de82ef95u;
         book = make_book(&input);
         calls = make_calls(&input);
         room = make_room(&input);
+        text = make_text(&input);
+        import_room = make_import_room(&input);
         judge(&input);
         count(&input, book, calls, room);
+        by_text[text][import_place(imported.answer)]++;
+        by_import_room[import_room][import_place(imported.answer)]++;
     }
     print_counts();
     return 0;
@@ -912,11 +1249,38 @@ static void repair_calls(struct input *input) {
     }
 }
 
+/* The text: the bytes themselves, or each a token of those that texts are made of. */
+static void put_fuzzed_text(struct input *input, const uint8_t *bytes, size_t length, int tokens) {
+    static const char alphabet[] = "0123456789,\"\r\n\r\nx"; /* token 12 is a whole line end */
+    size_t i;
+    input->text_length = 0;
+    for (i = 0; i < length; i++) {
+        unsigned token = bytes[i] % 16u;
+        if (tokens && token == 12) input->text[input->text_length++] = '\r';
+        input->text[input->text_length++] = tokens ? (uint8_t)alphabet[token + (token >= 12)] : bytes[i];
+    }
+    input->expected = ANY_ANSWER;
+}
+
+static unsigned long import_counts[IMPORT_ANSWERS];
+
+/* Tells libFuzzer of the answer and of how many line ends the text has. */
+static void note_import(const struct input *input) {
+    unsigned place = import_place(imported.answer), ends = 0;
+    size_t i;
+    for (i = 0; i < input->text_length; i++) ends += input->text[i] == '\n';
+    note(601 + place, ends);
+    import_counts[place]++;
+}
+
 static unsigned long opened_live, opened_dead, refused, decisions;
 
 static void print_sessions(void) {
     fprintf(stderr, "sessions: %lu opened live, %lu opened dead, %lu refused; %lu decisions answered live or dead\n",
             opened_live, opened_dead, refused, decisions);
+    fprintf(stderr, "imports: %lu good, %lu refused by 17, %lu by 18, %lu by 2, %lu by 6 to 8, %lu by 9\n",
+            import_counts[0], import_counts[6], import_counts[7], import_counts[1],
+            import_counts[2] + import_counts[3] + import_counts[4], import_counts[5]);
 }
 
 static void count_session(const struct input *input) {
@@ -939,7 +1303,8 @@ int LLVMFuzzerInitialize(int *argc, char ***argv) {
     return 0;
 }
 
-/* The input: what to repair and which output to cut (1 byte), the book's length (2 bytes), the book, the calls. */
+/* The input: what to repair and which output to cut (1 byte), the book's length (2 bytes), the book, the calls. Book
+ * and calls together are the text too, and the 2 bytes say how long its output is. */
 int LLVMFuzzerTestOneInput(const uint8_t *data, size_t size) {
     static struct input input;
     size_t book, n, k;
@@ -948,6 +1313,7 @@ int LLVMFuzzerTestOneInput(const uint8_t *data, size_t size) {
     book = data[1] + 256u * data[2];
     book = book < size - 3 ? book : size - 3;
     if (book > BOOK_ROOM - GUARD || size - 3 - book > CALLS_ROOM - GUARD) return 0;
+    if (2 * (size - 3) > TEXT_ROOM - GUARD) return 0;
     memcpy(input.book, data + 3, input.book_length = book);
     memcpy(input.calls, data + 3 + book, input.calls_length = size - 3 - book);
     if (input.book_length < 3) memset(input.book + input.book_length, 0, 3);
@@ -962,9 +1328,12 @@ int LLVMFuzzerTestOneInput(const uint8_t *data, size_t size) {
     input.answers_length = 2 * input.calls_length;
     if (input.answers_length > NESTED_GCC_ANSWERS_BYTES) input.answers_length = NESTED_GCC_ANSWERS_BYTES;
     input.answers_length -= input.answers_length > 0 && cut == 4;
+    put_fuzzed_text(&input, data + 3, size - 3, data[0] >> 5 & 1);
+    input.imported_length = (data[1] + 256u * data[2]) % (NESTED_GCC_BOOK_BYTES + 100);
     number++;
     judge(&input);
     note_outcomes(&input);
+    note_import(&input);
     count_session(&input);
     return 0;
 }
