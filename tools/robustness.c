@@ -612,7 +612,7 @@ static uint32_t sham_import(struct lent text, struct lent book) {
     if (SHAM == 15 && answer == 0 && length < book.length) book.at[length] ^= 1;        /* one byte past the book */
     if (SHAM == 16 && answer == 274 && book.length > 0) book.at[0] ^= 1;                /* refused, yet writes */
     if (SHAM == 17 && answer == 0 && half(book.at, 2) > 0) book.at[length - 4] ^= 1;    /* another lower */
-    if (SHAM == 18 && answer == 273) return 274;                                        /* no 17 */
+    if (SHAM == 18 && answer == 273) return 274;                                        /* 18 for 17 */
     if (SHAM == 19 && answer >= 262 && answer <= 264 && book.length < 12) return 265; /* the output before the rows */
     return answer;
 }

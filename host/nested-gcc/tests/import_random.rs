@@ -191,7 +191,7 @@ impl Orders {
     }
 }
 
-/// A good book with every type in every slot. Few are of 256 slots and 32 types, or of 1,020 to 1,024 rows.
+/// A good book with every type in every slot. A large one has about 256 slots and 32 types, and at most about 1,024 rows.
 fn good_book(random: &mut Random, large: bool) -> Book {
     let (n, k) = match large {
         true => (random.between(250, 256), random.between(30, 32)),
@@ -204,7 +204,7 @@ fn good_book(random: &mut Random, large: bool) -> Book {
     for row in &mut book.rows {
         match random.below(12) {
             0..=3 => row.upper = None,
-            4 => row.lower = random.one_of(&[0, row.end, row.end + 1, 256]),
+            4 => row.lower = random.one_of(&[0, row.end, usize::min(row.end + 1, 256), 256]),
             5 => row.upper = random.one_of(&[Some(0), Some(row.end), Some(256)]),
             _ => {}
         }
@@ -378,6 +378,7 @@ fn round_trips() {
     let (mut met, mut without_rows, mut large) = ([[0; 2]; 2], 0, 0);
     for turn in 0..ROUND_TRIPS {
         let book = good_book(&mut random, turn % 200 == 1);
+        assert_eq!(Book::parse(&bytes(&book)).as_ref(), Ok(&book), "the maker's book is a good one");
         let orders = Orders::of(&book);
         let text = Style::new(&mut random).text(&mut random, &orders);
         let imported = import_csv(&text).unwrap_or_else(|refusal| panic!("{:?}: {refusal}", Shown(&text)));
