@@ -191,7 +191,7 @@ impl Orders {
     }
 }
 
-/// A good book with every type in every slot. A large one has about 256 slots and 32 types, and at most about 1,024 rows.
+/// A good book with every type in every slot. A large one has about 256 slots and 32 types, and up to 1,024 rows.
 fn good_book(random: &mut Random, large: bool) -> Book {
     let (n, k) = match large {
         true => (random.between(250, 256), random.between(30, 32)),
