@@ -1,5 +1,5 @@
 -- The promises of import_csv as theorems, in document 02's words, for every text and output. No contract cites this file.
---   import-means, means-import   what the entry's contract means (`specs/Meaning.antt`), and no less: the meaning gives back the contract
+--   import-means, means-import   what the entry's contract means (`specs/ImportMeaning.antt`), and no less: the meaning gives back the contract
 --   import-reads-back            after the answer 0 the front of the output is the good book that the records of the text say
 --   full-limits-fit              document 01's limits have every number of a book fit its bytes
 -- Assumes nothing.
@@ -17,7 +17,7 @@ use Rattle.csv_model.specs.Import.{csvFault, bookOf, stored}
 use Rattle.csv_model.specs.Meaning.{orderBook, CsvMeans, Imported}
 use Rattle.csv_model.proofs.MeaningLaws.{csv-means, means-csv, text-book, import-reads}
 use Rattle.entries_model.specs.Entries.{fullLimits, answered, ImportEntry}
-use Rattle.entries_model.specs.Meaning.{ImportMeans, refuses, imports, ImportReads}
+use Rattle.entries_model.specs.ImportMeaning.{ImportMeans, refuses, imports, ImportReads}
 
 pub full-limits-fit : LimitsFit fullLimits
 full-limits-fit = record { slots = le-refl 256; values = le-refl 32; rows = le-refl 1024 }

@@ -1,3 +1,4 @@
 pub mod Entries
+pub mod ImportMeaning
 pub mod Meaning
 pub mod Version

@@ -1,26 +1,23 @@
--- What close, settle, session and import, the exported entries with outputs, answer and write, in the words of documents 01 and 02: refused by the
--- number, and each output as it was; dead exactly where no closed table, or no stable list, lies within; live with the loosest closed table, the largest
--- stable list, or a session for which demand 3 holds; imported, the book that the records say. (check's answer is `checkAnswer` of `specs/Entries.antt`.)
+-- What close, settle and session, the exported entries with outputs, answer and write, in document 01's words: refused by the number, and each
+-- output as it was; dead exactly where no closed table, or no stable list, lies within; live with the loosest closed table, the largest stable list,
+-- or a session for which demand 3 holds. (check's answer is `checkAnswer` of `specs/Entries.antt`.)
 --   closeNumber, settleNumber, sessionNumber   the number that refuses, from the bytes and the outputs' lengths; 0 where none does
 --   CloseMeans b L U r L′ U′     of book b and the outputs L and U as they are lent: r is close's answer, L′ and U′ the outputs as they come back
 --   SettleMeans b M r M′         the same of settle, with one output
 --   SessionMeans b calls A M r A′ M′   the same of session: A the answers, M the masks
 --   sessionWords, sessionMasks   the words of all calls and the masks after the list, by the plain machine
---   ImportMeans s o r o′         of the text s and the output o as it is lent: r is import_csv's answer, o′ the output as it comes back
---   ImportReads s o o′           what a host has after the answer 0: by the length in its bytes 10 and 11, the front of o′ is the good book that the records of
---                                s say, and what stood behind it stays
 --   WithinBounds b L′ U′ p       the plan p keeps the bounds that a host reads in the outputs
 --   WithinMasks b M′ p           the plan p has each slot's type in the mask that a host reads in the output
 --   SessionPlans b calls M′      no plan that meets the decisions in force after the list is lost
 --   DeadPlanless b calls A′      no plan meets a decision that was answered dead and those in force before it
--- `close-means`, `means-close` and so on say that the contracts of the entries have just these meanings; `import-reads-back` proves `ImportReads`,
--- and `close-plan-kept`, `settle-plan-kept`, `session-plan-at` and `dead-decision-no-plan` the last four. Assumes nothing.
+-- `close-means`, `means-close` and so on say that the contracts of the entries have just these meanings; `close-plan-kept`, `settle-plan-kept`,
+-- `session-plan-at` and `dead-decision-no-plan` prove the last four. Assumes nothing.
 use mathlib.Core.Path.{_≡_}
 use mathlib.Core.List.{List, [], _∷_}
 use Prim.Native.Nat.{ℕ, suc, _+_, _*_, _≤_, _<_}
-use lib.ListN.{length, getD, take, drop, replicate}
+use lib.ListN.{length, getD, replicate}
 use Rattle.domains.specs.Mask.{Has}
-use Rattle.book.specs.Layout.{word16, word32, slots, values, bookLength}
+use Rattle.book.specs.Layout.{word16, word32, slots, values}
 use Rattle.elements.specs.Elements.{bytesOf, whole}
 use Rattle.closing_model.specs.Start.{entries}
 use Rattle.closing_model.specs.Table.{view, place, Loosest, NoneClosed}
@@ -35,8 +32,6 @@ use Rattle.session_model.specs.Demand.{At, PlanMeets, Demand3, DeadOpening}
 use Rattle.session_model.specs.Machine.{fresh}
 use Rattle.session_model.specs.State.{wordsOf}
 use Rattle.session_fault.specs.Entry.{mostMarks, sessionFault}
-use Rattle.csv_model.specs.Rfc.{TextOf}
-use Rattle.csv_model.specs.Meaning.{GoodRecords, orderBook, CsvMeans, Imported}
 use Rattle.entries_model.specs.Entries.{fullLimits}
 
 -- ---- close
@@ -83,20 +78,6 @@ pub data SessionMeans (b calls A M : List ℕ) (r : ℕ) (A′ M′ : List ℕ) 
   opens-live : sessionNumber b calls A M ≡ 0 → (settled : List ℕ) → SettlesTo b settled → stateAfter b mostMarks [] ≡ fresh settled → r ≡ 0
       → Demand3 b mostMarks (callsOf calls)
       → A′ ≡ overlay (bytesOf 4 (sessionWords b calls)) A → M′ ≡ overlay (bytesOf 4 (sessionMasks b calls)) M → SessionMeans b calls A M r A′ M′
-
--- ---- import
-pub data ImportMeans (s o : List ℕ) (r : ℕ) (o′ : List ℕ) : Type 0 where
-  refuses : (x : ℕ) → CsvMeans fullLimits s (length o) (suc x) → r ≡ 256 + suc x → o′ ≡ o → ImportMeans s o r o′
-  -- the text is good records, and the book that they say is written; it is a good one
-  imports : CsvMeans fullLimits s (length o) 0 → (rs : List (List (List ℕ))) → TextOf s rs → GoodRecords 2 rs
-      → Imported fullLimits rs (orderBook rs) → r ≡ 0 → o′ ≡ overlay (orderBook rs) o → ImportMeans s o r o′
-
-pub record ImportReads (s o o′ : List ℕ) : Type 0 where
-  pub records : List (List (List ℕ))
-  pub text : TextOf s records
-  pub good : GoodRecords 2 records
-  pub front : Imported fullLimits records (take (bookLength o′) o′)
-  pub behind : drop (bookLength o′) o′ ≡ drop (bookLength o′) o
 
 -- ---- plans, of what a host reads in the outputs
 abbrev pub WithinBounds : List ℕ → List ℕ → List ℕ → List ℕ → Type 0
