@@ -1,11 +1,11 @@
-// What an entry answers. `wordOf` of specs/Answer.antt gives document 01's number of each case.
+// What an entry answers. `wordOf` of specs/Answer.antt gives the number of each case.
 ghost use mathlib.Core.Path.{_≡_};
 ghost use Rattle.answer.specs.Answer.{wordOf};
 
 pub enum Answer {
     Live,
     Dead,
-    // by document 01's number of the refusal
+    // by the number of the refusal
     Refused(u8),
 }
 

@@ -1,6 +1,6 @@
 -- The laws of `specs/Orders.antt`, in the order of the code: a text is read (`orders-refused-first`, `orders-refused-later`, `orders-said`), its orders
--- are tested (`fault-range`, `fault-row`, `fault-room`), its book is stored (`book-stored`), and so it is imported (`imports-broken`, `imports-refused`,
--- `imports-written`). No contract cites this file. Assumes nothing.
+-- are tested (`fault-range`, `fault-row`, `fault-room`, `ordered-said`), its book is stored (`book-stored`), and so it is imported (`imports-broken`,
+-- `imports-refused`, `imports-written`). No contract cites this file. Assumes nothing.
 use mathlib.Core.Path.{_≡_, refl, sym, ap, subst, _∙_}
 use mathlib.Core.Logic.{_⊎_}
 use mathlib.Core.Bool.{Bool, true, false}
@@ -21,7 +21,8 @@ use Rattle.elements.specs.Elements.{bytesOf}
 use Rattle.elements.proofs.ElementsLaws.{sets-append, length-bytesOf}
 use Rattle.book_bytes.specs.BookBytes.{headerBytes, fullMasks, rowsBytes, bookBytes, RowFits, LimitsFit}
 use Rattle.csv_model.specs.Csv.{Record, recordOf, records, later}
-use Rattle.csv_model.specs.Import.{recordsFault, slotsOf, valuesOf, rowsOfAll, rowsOf, rowsFault, bookLengthOf}
+use Rattle.csv_model.specs.Ordered.{rowsFault}
+use Rattle.csv_model.specs.Import.{recordsFault, slotsOf, valuesOf, rowsOfAll, rowsOf, bookLengthOf}
 use Rattle.csv_model.specs.Import.{saidFault, recordsRefusal, csvFault, bookOf, stored, Imports}
 use Rattle.csv_model.proofs.CsvLaws.{records-first}
 use Rattle.csv_model.proofs.ImportLaws.{range-in, Accepted, csv-accepted, length-bookOf, rows-fit}
@@ -30,7 +31,7 @@ use Rattle.csv.specs.declared.Later.{Later}
 use Rattle.csv.specs.declared.Orders.{Orders}
 use Rattle.csv.specs.Read.{faultOf, ReadOf}
 use Rattle.csv.specs.Passes.{LaterOf}
-use Rattle.csv.specs.Orders.{saying, OrdersSay, OrdersOf, OrdersFit}
+use Rattle.csv.specs.Orders.{saying, orderedFault, OrdersSay, OrdersOf, OrdersFit}
 use Rattle.csv.proofs.RecordLaws.{read-fault, read-head}
 
 -- ---- beyond
@@ -69,7 +70,7 @@ module _ {s : List ℕ} {head : Read} (read : ReadOf (recordOf s) s head) where
   orders-refused-first x is some number =
       refused-orders x number some (faults-read ∙ orElse-some (faultOf 2 head) _ (λ none. some (is ∙ none)) ∙ sym is)
 
-  module _ {found : Later} (head-good : faultOf 2 head ≡ 0) (of : LaterOf others found) where
+  module _ {found : Later} (head-good : faultOf 2 head ≡ 0) (of : LaterOf (head .tally .last .lower) (head .tally .last .upper) others found) where
     pub orders-refused-later : {o : Orders} → (found .number ≡ 0 → ⊥) → o .number ≡ found .number → OrdersOf s o
     orders-refused-later some number =
         refused-orders (found .number) number some (faults-read ∙ orElse-none (faultOf 2 head) _ head-good ∙ sym (of .number))
@@ -78,6 +79,8 @@ module _ {s : List ℕ} {head : Read} (read : ReadOf (recordOf s) s head) where
     orders-said later-good is =
         let sound : recordsFault 4 others ≡ 0 = sym (of .number) ∙ later-good in
         let numbers = read-head (recordOf s) s head read (sym (read-fault (recordOf s) s head read 2) ∙ head-good) in
+        let n-is : head .tally .last .lower ≡ slotsOf (records s) = numbers .0 ∙ sym (ap slotsOf records-read) in
+        let k-is : head .tally .last .upper ≡ valuesOf (records s) = numbers .1 ∙ sym (ap valuesOf records-read) in
         subst (OrdersOf s) (sym is)
         (record {
           number = sym (faults-read ∙ orElse-none (faultOf 2 head) _ head-good ∙ sound);
@@ -86,14 +89,18 @@ module _ {s : List ℕ} {head : Read} (read : ReadOf (recordOf s) s head) where
               record {
                 inside = read .inside;
                 sound = sound;
-                slots-are = numbers .0 ∙ sym (ap slotsOf records-read);
-                values-are = numbers .1 ∙ sym (ap valuesOf records-read);
+                slots-are = n-is;
+                values-are = k-is;
                 rows-are = sym (ap rowsOf records-read);
                 count-is = of .rows later-good ∙ sym (length-rows others) ∙ ap length (sym (ap rowsOf records-read));
+                refused =
+                    of .refused later-good ∙ ap (λ (m : ℕ). rowsFault m (head .tally .last .upper) (rowsOfAll others)) n-is
+                    ∙ ap (λ (m : ℕ). rowsFault (slotsOf (records s)) m (rowsOfAll others)) k-is
+                    ∙ ap (rowsFault (slotsOf (records s)) (valuesOf (records s))) (sym (ap rowsOf records-read));
               };
         })
 
--- ---- ordersFault
+-- ---- orderedFault
 -- what the records of s say
 abbrev nOf : List ℕ → ℕ
 nOf s = slotsOf (records s)
@@ -108,52 +115,47 @@ rowsSaid s = rowsOf (records s)
 abbrev rowsAt : List ℕ → Orders → List Row
 rowsAt s o = rowsOfAll (later (drop (o .from) s))
 
--- 6 to 8 and 9
-abbrev behindRange : List ℕ → ℕ → ℕ
-behindRange s len = rowsFault (nOf s) (kOf s) (rowsSaid s) orElse fault 9 (ltb len (bookLengthOf (records s)))
-
 -- a function of slots and types has one value, by the orders and by the records
 same-numbers : {A : Type 0} {s : List ℕ} {o : Orders} → OrdersSay s o → (f : ℕ → ℕ → A) → f (o .slots) (o .values) ≡ f (nOf s) (kOf s)
 same-numbers {s = s} {o} says f = ap (λ (m : ℕ). f m (o .values)) (says .slots-are) ∙ ap (f (nOf s)) (says .values-are)
 
-rows-said : {s : List ℕ} {o : Orders} {x : ℕ} → OrdersSay s o → x ≡ rowsFault (o .slots) (o .values) (rowsAt s o)
-    → rowsFault (nOf s) (kOf s) (rowsSaid s) ≡ x
-rows-said {s} {o} says is = sym (is ∙ same-numbers says (λ m v. rowsFault m v (rowsAt s o)) ∙ ap (rowsFault (nOf s) (kOf s)) (says .rows-are))
+-- the numbers of the orders are those of the records
+ordered-said : (limits : Limits) (len : ℕ) {s : List ℕ} {o : Orders} → OrdersSay s o → orderedFault limits o len ≡ saidFault limits (records s) len
+ordered-said limits len {s} {o} says =
+    let long : 12 + 4 * o .slots + 8 * o .rows ≡ bookLengthOf (records s) = omega (arith, says .slots-are, says .count-is) in
+    ap (λ (m : ℕ). fault 2 (beyond limits (o .slots) (o .values) (o .rows)) orElse o .refused orElse fault 9 (ltb len m)) long
+    ∙ ap (λ (x : ℕ). fault 2 (beyond limits (o .slots) (o .values) (o .rows)) orElse x orElse fault 9 (ltb len (bookLengthOf (records s)))) (says .refused)
+    ∙ ap (λ (t : Bool). fault 2 t orElse rowsFault (nOf s) (kOf s) (rowsSaid s) orElse fault 9 (ltb len (bookLengthOf (records s))))
+    (same-numbers says (λ m v. beyond limits m v (o .rows)) ∙ ap (beyond limits (nOf s) (kOf s)) (says .count-is))
 
-module _ (limits : Limits) {s : List ℕ} {o : Orders} (len : ℕ) (says : OrdersSay s o) where
-  range-said : {t : Bool} → t ≡ beyond limits (o .slots) (o .values) (o .rows)
-      → saidFault limits (records s) len ≡ fault 2 t orElse behindRange s len
-  range-said is =
-      sym (ap (λ (t : Bool). fault 2 t orElse behindRange s len)
-      (is ∙ same-numbers says (λ m v. beyond limits m v (o .rows)) ∙ ap (beyond limits (nOf s) (kOf s)) (says .count-is)))
+module _ (limits : Limits) (o : Orders) (len : ℕ) {t : Bool} (is : t ≡ beyond limits (o .slots) (o .values) (o .rows)) where
+  -- behind the range
+  abbrev behind : ℕ
+  behind = o .refused orElse fault 9 (ltb len (12 + 4 * o .slots + 8 * o .rows))
 
-  pub fault-range : {t : Bool} → t ≡ beyond limits (o .slots) (o .values) (o .rows) → t ≡ true → 2 ≡ saidFault limits (records s) len
-  fault-range is out = sym (range-said is ∙ ap (λ (t : Bool). fault 2 t orElse behindRange s len) out)
+  pub fault-range : t ≡ true → 2 ≡ orderedFault limits o len
+  fault-range out = ap (λ (t : Bool). fault 2 t orElse behind) (sym out ∙ is)
 
-  module _ {t : Bool} (is : t ≡ beyond limits (o .slots) (o .values) (o .rows)) (in-range : t ≡ false) where
-    past-range : saidFault limits (records s) len ≡ behindRange s len
-    past-range = range-said is ∙ ap (λ (t : Bool). fault 2 t orElse behindRange s len) in-range
+  module _ (in-range : t ≡ false) where
+    past-range : behind ≡ orderedFault limits o len
+    past-range = ap (λ (t : Bool). fault 2 t orElse behind) (sym in-range ∙ is)
 
     pub range-small : LimitsFit limits → (o .slots ≤ 256) × (o .rows ≤ 1024)
     range-small small =
         let range = range-in limits (o .slots) (o .values) (o .rows) (sym is ∙ in-range) in
         (le-trans (range .1) (small .slots), le-trans (range .4) (small .rows))
 
-    module _ {x : ℕ} (row : x ≡ rowsFault (o .slots) (o .values) (rowsAt s o)) where
-      pub fault-row : (x ≡ 0 → ⊥) → x ≡ saidFault limits (records s) len
-      fault-row some = sym (past-range ∙ orElse-some _ _ (λ none. some (sym (rows-said says row) ∙ none)) ∙ rows-said says row)
+    pub fault-row : (o .refused ≡ 0 → ⊥) → o .refused ≡ orderedFault limits o len
+    fault-row some = sym (orElse-some (o .refused) _ some) ∙ past-range
 
-      past-rows : x ≡ 0 → saidFault limits (records s) len ≡ fault 9 (ltb len (bookLengthOf (records s)))
-      past-rows none = past-range ∙ orElse-none _ _ (rows-said says row ∙ none)
+    past-rows : o .refused ≡ 0 → fault 9 (ltb len (12 + 4 * o .slots + 8 * o .rows)) ≡ orderedFault limits o len
+    past-rows none = sym (orElse-none (o .refused) _ none) ∙ past-range
 
-      long : 12 + 4 * o .slots + 8 * o .rows ≡ bookLengthOf (records s)
-      long = omega (arith, says .slots-are, says .count-is)
+    pub fault-room : o .refused ≡ 0 → len < 12 + 4 * o .slots + 8 * o .rows → 9 ≡ orderedFault limits o len
+    fault-room none less = sym (ap (fault 9) (lt-ltb len _ less)) ∙ past-rows none
 
-      pub fault-room : x ≡ 0 → len < 12 + 4 * o .slots + 8 * o .rows → 9 ≡ saidFault limits (records s) len
-      fault-room none less = sym (past-rows none ∙ ap (fault 9) (lt-ltb len _ (omega (arith, long))))
-
-      pub fault-none : x ≡ 0 → 12 + 4 * o .slots + 8 * o .rows ≤ len → 0 ≡ saidFault limits (records s) len
-      fault-none none room = sym (past-rows none ∙ ap (fault 9) (le-ltb len _ (omega (arith, long))))
+    pub fault-none : o .refused ≡ 0 → 12 + 4 * o .slots + 8 * o .rows ≤ len → 0 ≡ orderedFault limits o len
+    fault-none none room = sym (ap (fault 9) (le-ltb len _ room)) ∙ past-rows none
 
 -- ---- the stores of a book
 -- behind the header and the masks is room for the rows
@@ -203,10 +205,12 @@ module _ (limits : Limits) {s : List ℕ} (o : List ℕ) {orders : Orders} (read
       in
       record { number = is; output = stored-refused (csvFault limits s (length o)) (bookOf s) o (λ none. some (is ∙ none)) }
 
-  module _ (sound : orders .number ≡ 0) {x : ℕ} (tested : x ≡ saidFault limits (records s) (length o)) where
+  module _ (sound : orders .number ≡ 0) {x : ℕ} (tested : x ≡ orderedFault limits orders (length o)) where
     tested-number : x ≡ csvFault limits s (length o)
     unfolding recordsRefusal
-    tested-number = tested ∙ sym (orElse-none (recordsFault 2 (records s)) (saidFault limits (records s) (length o)) (sym (read .number) ∙ sound))
+    tested-number =
+        tested ∙ ordered-said limits (length o) (read .says sound)
+        ∙ sym (orElse-none (recordsFault 2 (records s)) (saidFault limits (records s) (length o)) (sym (read .number) ∙ sound))
 
     pub imports-refused : (x ≡ 0 → ⊥) → Imports limits s o x o
     imports-refused some =

@@ -4,7 +4,7 @@
 use mathlib.Core.Path.{_≡_, refl, sym, ap, subst, _∙_}
 use mathlib.Core.Logic.{dite}
 use mathlib.Core.List.{List, [], _∷_, _++_}
-use Prim.Native.Nat.{ℕ, _+_, _*_, _-_, _≤_, _<_}
+use Prim.Native.Nat.{ℕ, zero, suc, _+_, _*_, _-_, _≤_, _<_}
 use native.Mathlib.Decide.{decLt}
 use native.Mathlib.Omega.{arith}
 use lib.ListN.{length, drop, length-drop}
@@ -18,7 +18,8 @@ use Rattle.book.specs.Lists.{All}
 use Rattle.elements.proofs.ElementsLaws.{sets-append}
 use Rattle.book_bytes.specs.BookBytes.{rowBytes, rowsBytes, RowFits}
 use Rattle.csv_model.specs.Csv.{Record, recordOf, later}
-use Rattle.csv_model.specs.Import.{recordFault, recordsFault, rowOf, rowsOfAll, rowsFault}
+use Rattle.csv_model.specs.Ordered.{rowsFault}
+use Rattle.csv_model.specs.Import.{recordFault, recordsFault, rowOf, rowsOfAll}
 use Rattle.csv_model.proofs.CsvLaws.{record-shorter, later-none, later-some}
 use Rattle.csv.specs.declared.Read.{Read}
 use Rattle.csv.specs.Read.{faultOf, ReadOf}
@@ -100,71 +101,65 @@ module _ {text : List ℕ} {at : ℕ} {r : Read} (inside : at < length text) (re
         ∙ ap (λ (row : Row). row ∷ rowsOfAll (from-place text (r .next))) (sym row-here)
 
 -- ---- the first pass
-pub record Counting (text : List ℕ) (from at rows : ℕ) : Type 0 where
+pub record Testing (n k : ℕ) (text : List ℕ) (from at rows x : ℕ) : Type 0 where
   pub inside : at ≤ length text
   pub few : rows ≤ at
   pub same : recordsFault 4 (from-place text at) ≡ recordsFault 4 (from-place text from)
   pub count : rows + length (from-place text at) ≡ length (from-place text from)
+  pub row : recordsFault 4 (from-place text at) ≡ 0
+      → x orElse rowsFault n k (rowsOfAll (from-place text at)) ≡ rowsFault n k (rowsOfAll (from-place text from))
 
-pub counting-start : {text : List ℕ} {from : ℕ} → from ≤ length text → Counting text from from 0
-counting-start inside = record { inside = inside; few = omega arith; same = refl; count = omega arith }
+pub testing-start : {n k : ℕ} {text : List ℕ} {from : ℕ} → from ≤ length text → Testing n k text from from 0 0
+testing-start inside = record { inside = inside; few = omega arith; same = refl; count = omega arith; row = λ sound. refl }
 
-module _ {text : List ℕ} {from at rows : ℕ} {r : Read} (so-far : Counting text from at rows) (inside : at < length text)
+orElse-assoc : (x y z : ℕ) → (x orElse y) orElse z ≡ x orElse (y orElse z)
+orElse-assoc zero y z = refl
+orElse-assoc (suc x) y z = refl
+
+module _ {n k : ℕ} {text : List ℕ} {from at rows x : ℕ} {r : Read} (so-far : Testing n k text from at rows x) (inside : at < length text)
     (read : ReadOf (recordOf (drop at text)) text r) where
-  pub counting-more : faultOf 4 r ≡ 0 → Counting text from (r .next) (rows + 1)
-  counting-more none =
+  row-first : recordsFault 4 (from-place text at) ≡ 0
+      → rowsFault n k (rowsOfAll (from-place text at)) ≡ rowFault n k (r .tally .last) orElse rowsFault n k (rowsOfAll (from-place text (r .next)))
+  row-first sound = ap (rowsFault n k) (rows-here inside read sound) ∙ rowsFault-more n k (r .tally .last) (rowsOfAll (from-place text (r .next)))
+
+  pub testing-more : {y : ℕ} → faultOf 4 r ≡ 0 → y ≡ x orElse rowFault n k (r .tally .last) → Testing n k text from (r .next) (rows + 1) y
+  testing-more none is =
+      let on = fault-here inside read ∙ orElse-none (faultOf 4 r) _ none in
       record {
         inside = read .inside;
         few = omega (arith, next-further inside read, so-far .few);
-        same = sym (fault-here inside read ∙ orElse-none (faultOf 4 r) _ none) ∙ so-far .same;
+        same = sym on ∙ so-far .same;
         count = omega (arith, ap length (later-read inside read), so-far .count);
+        row =
+            λ sound.
+            let rest = rowsFault n k (rowsOfAll (from-place text (r .next))) in
+            ap (λ (z : ℕ). z orElse rest) is ∙ orElse-assoc x (rowFault n k (r .tally .last)) rest
+            ∙ ap (λ (z : ℕ). x orElse z) (sym (row-first (on ∙ sound))) ∙ so-far .row (on ∙ sound);
       }
 
-  pub counting-refused : {x : ℕ} → x ≡ faultOf 4 r → (x ≡ 0 → ⊥) → LaterOf (from-place text from) (record { number = x; rows = 0 })
-  counting-refused is some =
+  pub testing-refused : {y : ℕ} → y ≡ faultOf 4 r → (y ≡ 0 → ⊥) → LaterOf n k (from-place text from) (record { number = y; rows = 0; refused = 0 })
+  testing-refused is some =
       record {
         number = is ∙ sym (orElse-some (faultOf 4 r) _ (λ e. some (is ∙ e))) ∙ sym (fault-here inside read) ∙ so-far .same;
         rows = λ none. absurd (some none);
+        refused = λ none. absurd (some none);
       }
 
-pub counting-all : {text : List ℕ} {from at rows : ℕ} → length text ≤ at → Counting text from at rows
-    → LaterOf (from-place text from) (record { number = 0; rows = rows })
-counting-all {text = text} {at = at} end so-far =
+orElse-last : (x : ℕ) → x orElse 0 ≡ x
+orElse-last zero = refl
+orElse-last (suc x) = refl
+
+pub testing-all : {n k : ℕ} {text : List ℕ} {from at rows x : ℕ} → length text ≤ at → Testing n k text from at rows x
+    → LaterOf n k (from-place text from) (record { number = 0; rows = rows; refused = x })
+testing-all {n} {k} {text} {at = at} {x = x} end so-far =
     let none = later-end text at end in
+    let sound : recordsFault 4 (from-place text at) ≡ 0 = ap (recordsFault 4) none ∙ recordsFault-none 4 in
+    let behind : rowsFault n k (rowsOfAll (from-place text at)) ≡ 0 = ap (rowsFault n k) (ap rowsOfAll none ∙ rows-none) ∙ rowsFault-none n k in
     record {
-      number = sym (recordsFault-none 4) ∙ sym (ap (recordsFault 4) none) ∙ so-far .same;
+      number = sym sound ∙ so-far .same;
       rows = λ good. omega (arith, ap length none, so-far .count);
+      refused = λ good. sym (orElse-last x) ∙ ap (λ (z : ℕ). x orElse z) (sym behind) ∙ so-far .row sound;
     }
-
--- ---- the second pass
-pub record Testing (n k : ℕ) (text : List ℕ) (from at : ℕ) : Type 0 where
-  pub inside : at ≤ length text
-  pub sound : recordsFault 4 (from-place text at) ≡ 0
-  pub same : rowsFault n k (rowsOfAll (from-place text at)) ≡ rowsFault n k (rowsOfAll (from-place text from))
-
-pub testing-start : {n k : ℕ} {text : List ℕ} {from : ℕ} → from ≤ length text → recordsFault 4 (from-place text from) ≡ 0 → Testing n k text from from
-testing-start inside sound = record { inside = inside; sound = sound; same = refl }
-
-module _ {n k : ℕ} {text : List ℕ} {from at : ℕ} {r : Read} (so-far : Testing n k text from at) (inside : at < length text)
-    (read : ReadOf (recordOf (drop at text)) text r) where
-  here : rowsFault n k (rowsOfAll (from-place text at)) ≡ rowFault n k (r .tally .last) orElse rowsFault n k (rowsOfAll (from-place text (r .next)))
-  here = ap (rowsFault n k) (rows-here inside read (so-far .sound)) ∙ rowsFault-more n k (r .tally .last) (rowsOfAll (from-place text (r .next)))
-
-  pub testing-more : rowFault n k (r .tally .last) ≡ 0 → Testing n k text from (r .next)
-  testing-more none =
-      record {
-        inside = read .inside;
-        sound = sound-next inside read (so-far .sound);
-        same = sym (here ∙ orElse-none (rowFault n k (r .tally .last)) _ none) ∙ so-far .same;
-      }
-
-  pub testing-refused : {x : ℕ} → x ≡ rowFault n k (r .tally .last) → (x ≡ 0 → ⊥) → x ≡ rowsFault n k (rowsOfAll (from-place text from))
-  testing-refused is some = is ∙ sym (orElse-some (rowFault n k (r .tally .last)) _ (λ e. some (is ∙ e))) ∙ sym here ∙ so-far .same
-
-pub testing-all : {n k : ℕ} {text : List ℕ} {from at : ℕ} → length text ≤ at → Testing n k text from at
-    → 0 ≡ rowsFault n k (rowsOfAll (from-place text from))
-testing-all {n = n} {k = k} {text = text} {at = at} end so-far =
-    sym (rowsFault-none n k) ∙ sym (ap (rowsFault n k) (ap rowsOfAll (later-end text at end) ∙ rows-none)) ∙ so-far .same
 
 pub numberOf-le : (v : Verdict) → numberOf v ≤ 8
 numberOf-le Good = omega arith
@@ -177,7 +172,7 @@ numberOf-le BadRowValue = omega arith
 numberOf-le BadRowEnd = omega arith
 numberOf-le BadRowBound = omega arith
 
--- ---- the third pass
+-- ---- the second pass
 pub record Writing (text : List ℕ) (from : ℕ) (out₀ : List ℕ) (first at : ℕ) (out : List ℕ) (place : ℕ) : Type 0 where
   pub inside : at ≤ length text
   pub sound : recordsFault 4 (from-place text at) ≡ 0

@@ -1,6 +1,6 @@
 -- What the code finds of a field, against csv_model's `specs/Csv.antt`.
---   FigureFits f               a figure's value has no more digits than its count says
---   PartOf d text p       p is the field d of text: its figure and ending, and a place with the text behind it
+--   FigureFits f         a figure's value has no more digits than its count says
+--   PartOf d text p      p is the field d of text: its figure and ending, and a place with the text behind it
 --   widthOf text at      how many bytes the content byte at a place takes inside quotes: 2 for a doubled quote, 0 for the quote that closes
 -- Assumes nothing.
 use mathlib.Core.Path.{_≡_}

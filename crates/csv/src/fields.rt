@@ -1,5 +1,6 @@
 // The fields of a CSV text, one at a time: a place in the text goes in, and what was found comes back with the place behind it.
 // Nothing is refused here: a field that breaks RFC 4180 is found `Broken`. The contracts cite csv_model's `specs/Csv.antt` through `specs/Part.antt`.
+use crate::DIGITS_MOST;
 use crate::Part;
 use csv_model::Ending;
 use csv_model::Figure;
@@ -18,6 +19,10 @@ const CR: u8 = 13;
 const QUOTE: u8 = 34;
 
 const COMMA: u8 = 44;
+
+const ZERO: u8 = 48;
+
+const NINE: u8 = 57;
 
 // The field that begins at a place.
 pub fn field(text: &[u8], at: usize) -> Part
@@ -142,12 +147,12 @@ fn more(figure: Figure, b: u8) -> Figure
     requires { ⌜ FigureFits figure ⌝ }
     ensures { λ r. ⌜ (r ≡ Csv.more figure b) × FigureFits r ⌝ }
 {
-    if 48 <= b {
-        if b <= 57 {
-            if figure.count < 5 {
+    if ZERO <= b {
+        if b <= NINE {
+            if figure.count < DIGITS_MOST {
                 return Figure {
                     count: figure.count + 1,
-                    value: 10 * figure.value + (b - 48) as usize,
+                    value: 10 * figure.value + (b - ZERO) as usize,
                 };
             }
         }

@@ -3,8 +3,7 @@
 use crate::Later;
 use crate::Orders;
 use crate::Read;
-use crate::passes::later_fault;
-use crate::passes::rows_fault;
+use crate::passes::test_later;
 use crate::passes::write_rows;
 use crate::records::fault;
 use crate::records::read_record;
@@ -17,9 +16,8 @@ ghost use lib.ListN.{length};
 ghost use lib.Seq.{sets};
 ghost use Rattle.book.specs.Refusal.{beyond};
 ghost use Rattle.book_bytes.specs.BookBytes.{LimitsFit};
-ghost use Rattle.csv_model.specs.Csv.{records};
-ghost use Rattle.csv_model.specs.Import.{saidFault, bookOf, Imports};
-ghost use Rattle.csv.specs.Orders.{OrdersOf, OrdersSay, OrdersFit, saying};
+ghost use Rattle.csv_model.specs.Import.{bookOf, Imports};
+ghost use Rattle.csv.specs.Orders.{saying, orderedFault, OrdersSay, OrdersOf, OrdersFit};
 
 // Writes the book that text says into the front of out, and answers 0; or answers the number that refuses it, and writes nothing.
 pub fn import_orders(text: &[u8], limits: Limits, out: &mut [u8]) -> u8
@@ -31,7 +29,7 @@ pub fn import_orders(text: &[u8], limits: Limits, out: &mut [u8]) -> u8
     if broken != 0 {
         return broken;
     }
-    let refused = orders_fault(text, orders, limits, out.len());
+    let refused = orders_fault(orders, limits, out.len());
     if refused != 0 {
         return refused;
     }
@@ -46,25 +44,27 @@ fn read_orders(text: &[u8]) -> Orders
     let head = read_record(text, 0);
     let first = fault(head, 2);
     if first != 0 {
-        return refused(first);
+        return refusing(first);
     }
-    let later = later_fault(text, head.next);
+    let tally = head.tally;
+    let row = tally.last;
+    let later = test_later(text, head.next, row.lower, row.upper);
     let second = later.number;
     if second != 0 {
-        return refused(second);
+        return refusing(second);
     }
     said(head, later)
 }
 
 // Number 2, 6, 7, 8 or 9 of orders whose records have none, for an output of len bytes; 0 where there is none.
-fn orders_fault(text: &[u8], orders: Orders, limits: Limits, len: usize) -> u8
-    requires { ⌜ LimitsFit limits × OrdersSay (now text) orders ⌝ }
-    ensures { λ r. ⌜ r ≡ saidFault limits (records (now (text .entry))) len ⌝ }
+fn orders_fault(orders: Orders, limits: Limits, len: usize) -> u8
+    requires { ⌜ LimitsFit limits ⌝ }
+    ensures { λ r. ⌜ r ≡ orderedFault limits orders len ⌝ }
 {
     if out_of_range(limits, orders.slots, orders.values, orders.rows) {
         return 2;
     }
-    let number = rows_fault(text, orders.from, orders.slots, orders.values);
+    let number = orders.refused;
     if number != 0 {
         return number;
     }
@@ -95,7 +95,7 @@ fn out_of_range(limits: Limits, n: usize, k: usize, rows: usize) -> bool
 }
 
 // Orders that a number refuses.
-fn refused(number: u8) -> Orders
+fn refusing(number: u8) -> Orders
     ensures { λ r. ⌜ r .number ≡ number ⌝ }
 {
     Orders {
@@ -103,6 +103,7 @@ fn refused(number: u8) -> Orders
         slots: 0,
         values: 0,
         rows: 0,
+        refused: 0,
         from: 0,
     }
 }
@@ -118,6 +119,7 @@ fn said(head: Read, later: Later) -> Orders
         slots: row.lower,
         values: row.upper,
         rows: later.rows,
+        refused: later.refused,
         from: head.next,
     }
 }

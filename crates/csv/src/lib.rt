@@ -20,6 +20,9 @@ const TYPES: usize = 32;
 
 const ROWS: usize = 1024;
 
+// The most digits of a number.
+const DIGITS_MOST: usize = 5;
+
 // A field that was found: its figure, how it ends, and the place behind it.
 pub struct Part {
     pub figure: Figure,
@@ -43,18 +46,20 @@ pub struct Read {
     pub next: usize,
 }
 
-// What the first pass finds: the first number 17 or 18, or else how many records there are.
+// What the first pass finds: the first number 17 or 18, or else how many records there are, and the first number 6, 7 or 8 of their rows.
 pub struct Later {
     pub number: u8,
     pub rows: usize,
+    pub refused: u8,
 }
 
-// What a text orders: the number that refuses it, or else its numbers and the place of its first row.
+// What a text orders: the first number 17 or 18, or else its numbers, the first number 6, 7 or 8 of its rows, and the place of the first row.
 pub struct Orders {
     pub number: u8,
     pub slots: usize,
     pub values: usize,
     pub rows: usize,
+    pub refused: u8,
     pub from: usize,
 }
 

@@ -1,5 +1,6 @@
 // One record of a CSV text: its fields are read to its end, and what the numbers 17 and 18 ask of it and the row that it says are kept.
 // The contracts cite csv_model's `specs/Csv.antt` and `specs/Import.antt` through `specs/Read.antt`.
+use crate::DIGITS_MOST;
 use crate::Read;
 use crate::Tally;
 use crate::fields::field;
@@ -11,7 +12,14 @@ ghost use Prim.Native.Nat.{_<_, _≤_};
 ghost use lib.ListN.{length, drop};
 ghost use Rattle.csv_model.specs.Csv.{recordOf};
 ghost use Rattle.csv_model.specs.Import as Import;
+ghost use Rattle.csv_model.specs.Ordered.{orderRow};
 ghost use Rattle.csv.specs.Read.{noFields, added, faultOf, ReadOf};
+
+// The place of the upper in a later record.
+const UPPER: usize = 3;
+
+// The upper of a row that has none.
+const NO_UPPER: usize = 65535;
 
 // The record that begins at a place.
 pub fn read_record(text: &[u8], from: usize) -> Read
@@ -98,7 +106,7 @@ fn add(tally: Tally, figure: Figure) -> Tally
 
 // The row that orders a type by an end.
 fn order_row(value: usize, end: usize, lower: usize, upper: usize) -> Row
-    ensures { λ r. ⌜ r ≡ Import.orderRow value end lower upper ⌝ }
+    ensures { λ r. ⌜ r ≡ orderRow value end lower upper ⌝ }
 {
     Row {
         value,
@@ -114,9 +122,9 @@ fn bad_field(place: usize, figure: Figure) -> bool
     ensures { λ r. ⌜ r ≡ Import.badField place figure ⌝ }
 {
     if figure.count == 0 {
-        return place != 3;
+        return place != UPPER;
     }
-    5 < figure.count
+    DIGITS_MOST < figure.count
 }
 
 // The number that a field says: none, 65535, where it is empty.
@@ -124,7 +132,7 @@ fn said(figure: Figure) -> usize
     ensures { λ r. ⌜ r ≡ Import.said figure ⌝ }
 {
     if figure.count == 0 {
-        return 65535;
+        return NO_UPPER;
     }
     figure.value
 }

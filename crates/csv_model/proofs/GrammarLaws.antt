@@ -253,7 +253,7 @@ unfolding field
 field-quoted s c t e r form behind = ap field (form .text) ∙ quoted-content nothing c t ∙ shut-behind (figureOf c) t e r behind
 
 -- a plain byte is no quote
-plain-unquoted : (b : ℕ) → isMark b ≡ false → eqb b quote ≡ false
+pub plain-unquoted : (b : ℕ) → isMark b ≡ false → eqb b quote ≡ false
 plain-unquoted b plain =
     let no-comma = none-of-or (eqb b comma) (eqb b CR || (eqb b LF || eqb b quote)) plain in
     let no-CR = none-of-or (eqb b CR) (eqb b LF || eqb b quote) (no-comma .1) in

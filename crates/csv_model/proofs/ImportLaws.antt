@@ -24,8 +24,10 @@ use Rattle.book.specs.Lists.{All}
 use Rattle.book_bytes.specs.BookBytes.{bookBytes, RowFits, BookFits, fullMasks, LimitsFit}
 use Rattle.book_bytes.proofs.BookBytesLaws.{slots-of, rowCount-of, rowsOffset-of, bookLength-of, masks-of, rows-of, length-of}
 use Rattle.csv_model.specs.Csv.{Record, records}
-use Rattle.csv_model.specs.Import.{badFields, recordFault, recordsFault, slotsOf, valuesOf, orderRow, rowOf, rowsOfAll, rowsOf, rangeFault, rowsFault}
-use Rattle.csv_model.specs.Import.{bookLengthOf, ordersFault, recordsRefusal, csvFault, bookOf}
+use Rattle.csv_model.specs.Ordered.{orderRow, rangeFault, rowsFault}
+use Rattle.csv_model.specs.Import.{badFields, recordFault, recordsFault, slotsOf, valuesOf, rowOf, rowsOfAll, rowsOf}
+use Rattle.csv_model.specs.Ordered.{ordersFault}
+use Rattle.csv_model.specs.Import.{bookLengthOf, recordsRefusal, csvFault, bookOf}
 use Rattle.csv_model.specs.Meaning.{isAny, csvNumbers}
 
 -- ---- recordsRefusal

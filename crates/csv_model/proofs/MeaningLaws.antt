@@ -23,7 +23,8 @@ use Rattle.book_bytes.specs.BookBytes.{bookBytes, LimitsFit, fullMasks}
 use Rattle.csv_model.specs.Rfc.{RecordAt, TextOf, last, followed, Unreadable}
 use Rattle.csv_model.specs.Csv.{figureFrom, figureOf, figures, Record, brokenRecord, recordOf, records, later}
 use Rattle.csv_model.specs.Import.{isNumber, badField, badFields, recordFault, recordsFault, said, saidAt, slotsOf, valuesOf, rowOf, rowsOfAll, rowsOf}
-use Rattle.csv_model.specs.Import.{rowsFault, ordersFault, recordsRefusal, csvFault, bookOf}
+use Rattle.csv_model.specs.Ordered.{rowsFault, ordersFault}
+use Rattle.csv_model.specs.Import.{recordsRefusal, csvFault, bookOf}
 use Rattle.csv_model.specs.Meaning.{decimal, IsNumber, GoodField, GoodFields, GoodRecord, GoodRecords, Past, here, behind, saidBy, saidIn, slotsIn}
 use Rattle.csv_model.specs.Meaning.{typesIn, rowIn, rowsInAll, rowsIn, orderBook, CsvMeans, breaks, wrong, outside, row-refused, short, accepts}
 use Rattle.csv_model.specs.Meaning.{Imported}

@@ -7,7 +7,8 @@ use Prim.Native.Nat.{ℕ}
 use lib.Dec.{eqb}
 use Rattle.book.specs.declared.Limits.{Limits}
 use Rattle.csv_model.specs.Csv.{more, ended, bare, quoted, field, recordWithin, recordOf, recordsWithin, records}
-use Rattle.csv_model.specs.Import.{badFields, recordFault, recordsFault, rowsOfAll, rowsFault, recordsRefusal, csvFault, bookOf}
+use Rattle.csv_model.specs.Ordered.{rowsFault}
+use Rattle.csv_model.specs.Import.{badFields, recordFault, recordsFault, rowsOfAll, recordsRefusal, csvFault, bookOf}
 use Rattle.book.specs.Refusal.{rowFault}
 use Rattle.book_bytes.specs.BookBytes.{rowsBytes}
 use Rattle.elements.specs.Elements.{bytesOf}
@@ -29,12 +30,6 @@ cases =
     record { text = 51 ∷ 44 ∷ 50 ∷ 13 ∷ 10 ∷ 48 ∷ 44 ∷ 50 ∷ 44 ∷ 49 ∷ 44 ∷ 13 ∷ 10 ∷ []; number = 0 }
     ∷  -- quoted
     record { text = 34 ∷ 51 ∷ 34 ∷ 44 ∷ 34 ∷ 50 ∷ 34 ∷ 13 ∷ 10 ∷ 34 ∷ 48 ∷ 34 ∷ 44 ∷ 34 ∷ 50 ∷ 34 ∷ 44 ∷ 34 ∷ 49 ∷ 34 ∷ 44 ∷ 34 ∷ 34 ∷ []; number = 0 }
-    ∷  -- leading zeros
-    record {
-      text = 48 ∷ 48 ∷ 48 ∷ 48 ∷ 51 ∷ 44 ∷ 48 ∷ 48 ∷ 48 ∷ 48 ∷ 50 ∷ 13 ∷ 10 ∷ 48 ∷ 48 ∷ 48 ∷ 48 ∷ 48 ∷ 44 ∷ 48 ∷ 48 ∷ 48 ∷ 48 ∷ 50 ∷ 44 ∷ 48 ∷
-          48 ∷ 48 ∷ 48 ∷ 49 ∷ 44 ∷ 48 ∷ 48 ∷ 48 ∷ 48 ∷ 50 ∷ [];
-      number = 0;
-    }
     ∷  -- upper 65535 in digits
     record { text = 51 ∷ 44 ∷ 50 ∷ 13 ∷ 10 ∷ 48 ∷ 44 ∷ 50 ∷ 44 ∷ 49 ∷ 44 ∷ 54 ∷ 53 ∷ 53 ∷ 51 ∷ 53 ∷ []; number = 0 }
     ∷  -- empty text

@@ -1,12 +1,15 @@
 -- The reader of a CSV text, to be read: what `specs/Rfc.antt` says, computed. Of a field's content only its figure is kept.
+--   nothing, noNumber   the figure of an empty content, and of one that is no number
 --   more f b            the figure f of a content, with byte b behind it
 --   figureOf c          the figure of the whole content c; figureFrom f c: of c behind a content with figure f; figures cs: of each content
 --   Field               a field that was read: its figure, its ending and the text behind
+--   fieldOf f e s       the field with figure f, ending e and the text s behind; broken: one that breaks the grammar
 --   ended f s           the field with figure f, where the text s stands behind its content: the end of the text or CRLF ends the record, a comma the field
 --   bare f s            a field without quotes: f is the figure so far, s the text from there; it goes to a comma, CR, LF or the end. A quote breaks
 --   quoted inside f s   a quoted field, past its first quote. inside: within the quotes; else just behind a quote, which a second one makes content
 --   field s             the first field of s
 --   Record              a record that was read: its fields, whether it is whole (not broken) and the text behind it
+--   brokenRecord        a record of which nothing was read; before f r: the record r with one field more in front
 --   recordOf s          the first record of s; recordWithin counts its fields down
 --   records s           all records of s: at least one, and another as long as text is left; recordsWithin counts them down
 --   later s             the records of a text that stands behind a record: none where no text is left

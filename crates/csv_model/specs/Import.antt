@@ -1,29 +1,31 @@
--- Which texts are refused, by document 02's numbers and in its order (request one), and the book that an accepted one gives.
+-- Which texts are refused, by document 02's numbers and in its order (request one), and the book that an accepted one gives: by the reader of `specs/Csv.antt`.
 --   isNumber f           one to five digits
---   badFields i fs       a field of fs is no number; i is the place of the first in its record. Place 3, the upper, may be empty
+--   badField i f         the field f, at place i of its record, is no number; place 3, the upper, may be empty. badFields i fs: one of fs is, from place i on
 --   recordFault w r      17 for a broken record; 18 where it does not have w fields, or one is bad
 --   recordsFault w rs    the first of these; w is 2 for the first record, and 4 for each later one
 --   said f, saidAt fs i   the number that an accepted field says, and the field at place i: an empty upper is none, 65535
 --   slotsOf, valuesOf    the numbers of the first record
---   orderRow v e l u     the row that orders type v by end e, from l to u
---   rowOf r, rowsOf rs   the row of a later record, and all rows, in order
---   rangeFault, rowsFault   2 and 6 to 8, on the numbers as they are written: nothing wraps
---   ordersFault limits n k rows len   2, 6 to 8 and 9, where no record has a number; saidFault limits rs len: of what the records rs say
+--   rowOf fs, rowsOfAll rs, rowsOf rs   the row of a later record; the rows of all records rs; those of all but the first, in order
+--   bookLengthOf rs      how many bytes the book of the records has
+--   saidFault limits rs len   2, 6 to 8 and 9 of what the records rs say, where none has a number
+--   recordsRefusal limits rs len   17 and 18, record by record; then those
 --   csvFault limits s len   the number that refuses the text s with an output of len bytes, 0 where none does
 --   bookOf s             the bytes of the book: full masks, byte 3 is 0, one row for each later record
---   Imports limits s o r o′   r is what the entry answers for text s and output o as it is lent, and o′ the output as it comes back
+--   stored x b o         what stands in the output o after the number x: the book b in its front where x is 0, else just o
+--   Imports limits s o r o′   r is the number that refuses the text s with the output o as it is lent, 0 where none does; o′ is the output as it comes back
 -- Assumes nothing.
 use mathlib.Core.Path.{_≡_}
 use mathlib.Core.Bool.{Bool, false, not, _&&_, _||_, cond}
 use mathlib.Core.List.{List, [], _∷_, _++_}
 use Prim.Native.Nat.{ℕ, zero, suc, _+_, _*_}
-use lib.Dec.{eqb, ltb, leb}
+use lib.Dec.{eqb, leb}
 use lib.ListN.{length, getD, drop}
 use Rattle.book.specs.declared.Limits.{Limits}
 use Rattle.book.specs.declared.Row.{Row}
-use Rattle.book.specs.Refusal.{fault, _orElse_, beyond, rowFault}
+use Rattle.book.specs.Refusal.{fault, _orElse_}
 use Rattle.book_bytes.specs.BookBytes.{fullMasks, bookBytes}
 use Rattle.csv_model.specs.declared.Figure.{Figure}
+use Rattle.csv_model.specs.Ordered.{orderRow, ordersFault}
 use Rattle.csv_model.specs.Csv.{nothing, Record, brokenRecord, records}
 
 -- ---- 17 and 18
@@ -58,9 +60,6 @@ slotsOf rs = saidAt (getD rs 0 brokenRecord .fields) 0
 abbrev pub valuesOf : List Record → ℕ
 valuesOf rs = saidAt (getD rs 0 brokenRecord .fields) 1
 
-abbrev pub orderRow : ℕ → ℕ → ℕ → ℕ → Row
-orderRow v e l u = record { value = v; reserved = 0; end = e; lower = l; upper = u }
-
 -- a later record: type, end, lower, upper
 abbrev pub rowOf : List Figure → Row
 rowOf fs = orderRow (saidAt fs 0) (saidAt fs 1) (saidAt fs 2) (saidAt fs 3)
@@ -72,27 +71,13 @@ rowsOfAll (r ∷ rs) = rowOf (r .fields) ∷ rowsOfAll rs
 abbrev pub rowsOf : List Record → List Row
 rowsOf rs = rowsOfAll (drop 1 rs)
 
--- ---- 2 and 6 to 8
-abbrev pub rangeFault : Limits → ℕ → ℕ → ℕ → ℕ
-rangeFault limits n k r = fault 2 (beyond limits n k r)
-
-unfoldable pub rowsFault : ℕ → ℕ → List Row → ℕ
-rowsFault n k [] = 0
-rowsFault n k (row ∷ rows) = rowFault n k row orElse rowsFault n k rows
-
 -- ---- the whole
 abbrev pub bookLengthOf : List Record → ℕ
 bookLengthOf rs = 12 + 4 * slotsOf rs + 8 * length (rowsOf rs)
 
--- 2; 6 to 8, row by row; 9
-abbrev pub ordersFault : Limits → ℕ → ℕ → List Row → ℕ → ℕ
-ordersFault limits n k rows len =
-    rangeFault limits n k (length rows) orElse rowsFault n k rows orElse fault 9 (ltb len (12 + 4 * n + 8 * length rows))
-
 abbrev pub saidFault : Limits → List Record → ℕ → ℕ
 saidFault limits rs len = ordersFault limits (slotsOf rs) (valuesOf rs) (rowsOf rs) len
 
--- 17 and 18, record by record; then those
 unfoldable pub recordsRefusal : Limits → List Record → ℕ → ℕ
 recordsRefusal limits rs len = recordsFault 2 rs orElse saidFault limits rs len
 
@@ -102,7 +87,6 @@ csvFault limits s len = recordsRefusal limits (records s) len
 unfoldable pub bookOf : List ℕ → List ℕ
 bookOf s = bookBytes (slotsOf (records s)) (valuesOf (records s)) 0 (fullMasks (slotsOf (records s)) (valuesOf (records s))) (rowsOf (records s))
 
--- what stands in the output o after an answer: the book in its front where no number refuses, else just o
 abbrev pub stored : ℕ → List ℕ → List ℕ → List ℕ
 stored zero book o = book ++ drop (length book) o
 stored (suc number) book o = o

@@ -1,4 +1,5 @@
 pub mod Rfc
 pub mod Csv
+pub mod Ordered
 pub mod Import
 pub mod Meaning

@@ -1,11 +1,12 @@
 -- What an importer answers for a text, in document 02's words and by the grammar of `specs/Rfc.antt`: no reader is near it. A record is the list of the
 -- contents of its fields, a text the list of its records.
 --   IsNumber c            the content c is one to five digits; decimal c: their number. decimalFrom v c: of the digits of v, then c
---   GoodField i c         the field at place i of its record: a number, or an empty upper (place 3)
+--   GoodField i c         the field at place i of its record: a number, or an empty upper (place 3); GoodFields i cs: each of cs, from place i on
 --   GoodRecord w cs       w fields, and each of them good; GoodRecords w rs: the first has w, each later one 4
 --   Past w s w′ t         good records of s, the first of which has w fields, lead to the text t, whose first record is to have w′
---   saidBy c              the number that a good field says: 65535, none, where it is empty
---   slotsIn, typesIn      what the first record says; rowIn cs, rowsIn rs: the row of a later record, and all rows in order
+--   saidBy c, saidIn cs i   the number that a good field says, and the one at place i: 65535, none, where it is empty
+--   slotsIn, typesIn      what the first record says
+--   rowIn cs, rowsInAll rs, rowsIn rs   the row of a later record; the rows of all records rs; those of all but the first, in order
 --   orderBook rs          the bytes of the book: byte 3 is 0, every mask is full, one row for each later record
 --   CsvMeans limits s len x   x is what document 02 asks of the text s with an output of len bytes: the number that refuses it, 0 where none does
 --   csvNumbers            all of these numbers; isAny x xs: x is one of xs
@@ -28,7 +29,7 @@ use Rattle.closing_model.specs.Start.{startLowers, startUppers}
 use Rattle.closing_model.specs.Closing.{closing}
 use Rattle.book_bytes.specs.BookBytes.{bookBytes, fullMasks}
 use Rattle.csv_model.specs.Rfc.{isDigit, RecordAt, TextOf, Unreadable}
-use Rattle.csv_model.specs.Import.{orderRow, rowsFault}
+use Rattle.csv_model.specs.Ordered.{orderRow, rowsFault}
 
 -- ---- good fields and records
 unfoldable pub decimalFrom : ℕ → List ℕ → ℕ

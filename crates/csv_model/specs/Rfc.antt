@@ -1,4 +1,5 @@
 -- The grammar of a CSV text: RFC 4180 as document 02, request one, narrows it (line ends are CRLF, and the last may lack it). No reader is near it.
+--   LF, CR, quote, comma   the bytes that the grammar names; isDigit b: '0' to '9'
 --   isMark b          no bare field holds b: a comma, CR, LF or quote; Plain c: c has none of them
 --   doubled c         the content c with each quote written twice
 --   Bare s c t        s is the plain content c, then t
@@ -8,7 +9,8 @@
 --   RecordAt s cs r   s begins with a record of the contents cs: fields with commas between them, the last with the end of the text or CRLF behind it, then r
 --   TextOf s rs       s is the records rs, one behind the other: behind a record that is not the last stands more text
 --   Unreadable s      s begins with no record
--- `field-grammar`, `field-read`, `record-grammar` and `record-read` of `proofs/GrammarLaws.antt` tie the reader of `specs/Csv.antt` to it.
+-- `field-grammar`, `field-read`, `record-grammar` and `record-read` of `proofs/GrammarLaws.antt` tie the reader of `specs/Csv.antt` to it; `text-unique` of
+-- `proofs/UniqueLaws.antt`: a text has one list of records.
 -- Assumes nothing.
 use mathlib.Core.Path.{_≡_}
 use mathlib.Core.Logic.{_⊎_}
@@ -33,7 +35,6 @@ quote = 34
 abbrev pub comma : ℕ
 comma = 44
 
--- '0' to '9'
 abbrev pub isDigit : ℕ → Bool
 isDigit b = leb 48 b && leb b 57
 

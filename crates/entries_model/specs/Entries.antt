@@ -1,4 +1,4 @@
--- What the exported entries promise, from bytes to bytes (document 01, 'Entries and their numbers').
+-- What the exported entries promise, from bytes to bytes (document 01, 'Entries and their numbers'; document 02, request one).
 --   fullLimits        document 01's limits: 256 slots, 32 types, 1024 rows
 --   answered number   0 where no number refuses, else 256 + the number
 --   checkAnswer b     what check answers for the bytes b: 0 for a good book

@@ -1,8 +1,8 @@
 -- What import_csv answers and writes, in document 02's words and by the grammar of csv_model's `specs/Rfc.antt`: refused by the number, and the output as it
 -- was; or the text is good records, and the book that they say is in the front of the output.
 --   ImportMeans s o r o′   of the text s and the output o as it is lent: r is import_csv's answer, o′ the output as it comes back
---   ImportReads s o o′     what a host has after the answer 0: by the length in its bytes 10 and 11, the front of o′ is the good book that the records of s say,
---                          and what stood behind it stays
+--   ImportReads s o o′     what a host has after the answer 0: by the length in its bytes 10 and 11, the front of o′ is the good book that the records of s
+--                          say, and what stood behind it stays
 -- `import-means` and `means-import` say that the contract of the entry has just this meaning; `import-reads-back` proves `ImportReads`. Assumes nothing.
 use mathlib.Core.Path.{_≡_}
 use mathlib.Core.List.{List}

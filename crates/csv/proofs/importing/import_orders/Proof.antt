@@ -14,7 +14,7 @@ returns c =
     imports-broken (start .args .limits) (start .args .out .now) (c .before .read-orders .ensures) (c .if1 .taken)
 
 orders-fault-requires : tie.Need-orders-fault-requires
-orders-fault-requires c κs = (c .before .before .before .before .pre, c .before .read-orders .ensures .says (c .if1 .left))
+orders-fault-requires c κs = search needs
 
 returns-2 : tie.Need-returns-2
 returns-2 c =

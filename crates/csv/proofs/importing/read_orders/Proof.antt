@@ -12,26 +12,27 @@ read-record-requires c κs = search needs
 fault-requires : tie.Need-fault-requires
 fault-requires c κs = search needs
 
-refused-requires : tie.Need-refused-requires
-refused-requires c κs = search needs
+refusing-requires : tie.Need-refusing-requires
+refusing-requires c κs = search needs
 
 returns : tie.Need-returns
 returns c =
     let tested = c .before .before in
-    orders-refused-first (tested .before .read-record .ensures) (tested .fault .result) (tested .fault .ensures) (c .before .if1 .taken) (c .refused .ensures)
+    orders-refused-first (tested .before .read-record .ensures) (tested .fault .result) (tested .fault .ensures) (c .before .if1 .taken) (c .refusing .ensures)
 
-later-fault-requires : tie.Need-later-fault-requires
-later-fault-requires c κs = search needs
+test-later-requires : tie.Need-test-later-requires
+test-later-requires c κs = search needs
 
-refused-requires-2 : tie.Need-refused-requires-2
-refused-requires-2 c κs = search needs
+refusing-requires-2 : tie.Need-refusing-requires-2
+refusing-requires-2 c κs = search needs
 
 returns-2 : tie.Need-returns-2
 returns-2 c =
     let passed = c .before .before in
-    let tested = passed .before .before in
-    orders-refused-later (tested .before .read-record .ensures) (sym (tested .fault .ensures) ∙ passed .before .if1 .left) (passed .later-fault .ensures)
-    (c .before .if2 .taken) (c .refused2 .ensures)
+    let first = passed .before .before .before in
+    let tested = first .before in
+    orders-refused-later (tested .before .read-record .ensures) (sym (tested .fault .ensures) ∙ first .if1 .left) (passed .test-later .ensures)
+    (c .before .if2 .taken) (c .refusing2 .ensures)
 
 said-requires : tie.Need-said-requires
 said-requires c κs = search needs
@@ -39,8 +40,9 @@ said-requires c κs = search needs
 returns-3 : tie.Need-returns-3
 returns-3 c =
     let passed = c .before .before in
-    let tested = passed .before .before in
-    orders-said (tested .before .read-record .ensures) (sym (tested .fault .ensures) ∙ passed .before .if1 .left) (passed .later-fault .ensures)
+    let first = passed .before .before .before in
+    let tested = first .before in
+    orders-said (tested .before .read-record .ensures) (sym (tested .fault .ensures) ∙ first .if1 .left) (passed .test-later .ensures)
     (c .before .if2 .left) (c .said .ensures)
 
 pub read-orders-spec : {M : Type 1} → statement M
@@ -49,10 +51,10 @@ read-orders-spec =
     (tie.spec
     read-record-requires
     fault-requires
-    refused-requires
+    refusing-requires
     returns
-    later-fault-requires
-    refused-requires-2
+    test-later-requires
+    refusing-requires-2
     returns-2
     said-requires
     returns-3)
