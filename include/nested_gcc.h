@@ -125,7 +125,8 @@ uint32_t nested_gcc_check(const uint8_t *book, size_t book_len);
  * bare, or stands in quotes as a whole: "12" is 12, and "" is empty. The first record is slots, types; each later one,
  * of which there may be none, is a row: type, end, lower, upper, where an empty upper is no upper bound, as
  * NESTED_GCC_NO_UPPER is. Every other field is one to five digits, with no blank; leading zeros are digits. A text
- * without a byte is one record of one empty field, and is refused by 18.
+ * without a byte is one record of one empty field, and is refused by 18. A byte order mark, a line of column titles,
+ * semicolons and a first record padded by commas (12,4,,), as spreadsheets may write them, are refused too.
  *
  * NESTED_GCC_GOOD: the text is accepted. Writes its book, 12 + 4 * slots + 8 * rows bytes: the text's slots and types,
  *     every type in every mask, and the rows in the order of their records. That book is good for nested_gcc_check. It
