@@ -5,7 +5,7 @@ mod lent;
 
 use lent::Lent;
 use nested_gcc::{
-    check, close, import_csv, import_csv_into, settle, Book, Live, Refusal, BOOK_BYTES, ROWS_MOST,
+    check, close, import_csv, import_csv_into, settle, Book, Live, Refusal, Standing, BOOK_BYTES, ROWS_MOST,
 };
 
 /// 0 for a text that is accepted, else the number of the refusal, where the output is long enough. With outputs of
@@ -109,10 +109,10 @@ fn the_longest_book() {
     assert_eq!(check(&imported), Ok(()));
 }
 
-/// Check, close, settle and an opened session say of the imported book what they say of the same book written by
-/// `Book`, live or dead.
+/// Imported books are those that `Book` writes; check, close, settle and an opened session take them, the first four as
+/// live and the others as dead.
 #[test]
-fn an_imported_book_is_as_good_as_a_written_one() {
+fn imported_books_live_and_dead() {
     let books = [
         (&b"5,2\r\n0,4,2,\r\n"[..], Book::new(5, 2).row(0, 4, 2, None)),
         (b"5,2\r\n0,4,0,2\r\n", Book::new(5, 2).row(0, 4, 0, Some(2))),
@@ -124,15 +124,13 @@ fn an_imported_book_is_as_good_as_a_written_one() {
         (b"2,2\r\n0,2,256,256\r\n", Book::new(2, 2).row(0, 2, 256, Some(256))),
     ];
     for (at, (text, written)) in books.into_iter().enumerate() {
-        let (imported, written) = (book(text), written.to_bytes());
-        assert_eq!(imported, written, "{at}");
+        let imported = book(text);
+        assert_eq!(imported, written.to_bytes(), "{at}");
         assert_eq!(check(&imported), Ok(()), "{at}");
-        assert_eq!(close(&imported), close(&written), "{at}");
         assert_eq!(close(&imported).map(|table| table.is_some()), Ok(at < 4), "{at}");
-        assert_eq!(settle(&imported), settle(&written), "{at}");
         assert_eq!(settle(&imported).map(|masks| masks.is_some()), Ok(at < 4), "{at}");
-        let (ours, theirs) = (Live::open(&imported).unwrap(), Live::open(&written).unwrap());
-        assert_eq!((ours.standing(), ours.masks()), (theirs.standing(), theirs.masks()), "{at}");
+        let standing = if at < 4 { Standing::Live } else { Standing::OpenedDead };
+        assert_eq!(Live::open(&imported).map(|session| session.standing()), Ok(standing), "{at}");
     }
     // M2's lower and upper, and the mask that slot 0 of the fourth book is left with, by the rules.
     let table = close(&book(b"5,2\r\n0,4,2,")).unwrap().unwrap();
