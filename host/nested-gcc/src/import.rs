@@ -35,6 +35,7 @@ pub fn import_csv(text: &[u8]) -> Result<Vec<u8>, Refusal> {
     let mut book = vec![0; BOOK_BYTES];
     let length = import_csv_into(text, &mut book)?;
     book.truncate(length);
+    book.shrink_to_fit();
     Ok(book)
 }
 

@@ -76,6 +76,12 @@ fn books_without_rows() {
     assert_eq!(book(b"2,32\r\n"), of_32_types);
 }
 
+/// A short book does not keep the memory of the longest.
+#[test]
+fn a_book_has_the_memory_that_it_needs() {
+    assert!(book(b"1,1").capacity() < 100);
+}
+
 /// Every number of types has masks with just its bits.
 #[test]
 fn masks_are_full() {
