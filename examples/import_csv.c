@@ -38,11 +38,11 @@ static uint8_t *read_text(const char *name, size_t *length) {
     return text;
 }
 
-/* What each refusal of nested_gcc_import_csv means. */
+/* What each refusal of nested_gcc_import_csv means, as far as a CSV can have it: it has no second byte of a row. */
 static const char *meaning(uint32_t refusal) {
     switch (refusal) {
     case NESTED_GCC_OUT_OF_RANGE: return "n, k or r out of range";
-    case NESTED_GCC_ROW_TYPE: return "row type k or more, or its second byte not 0";
+    case NESTED_GCC_ROW_TYPE: return "row type k or more";
     case NESTED_GCC_ROW_END: return "end 0 or above n";
     case NESTED_GCC_ROW_BOUND: return "lower above 256; upper above 256, not 65535";
     case NESTED_GCC_OUTPUT_TOO_SHORT: return "a lent output too short";
@@ -106,7 +106,12 @@ int main(int argc, char **argv) {
     slots = two(book);
     types = book[2];
     printf("%s: %u slots, %u types, %u rows\n", name, slots, types, two(book + 4));
-    printf("check %u: a good book of %u bytes\n", (unsigned)nested_gcc_check(book, length), (unsigned)length);
+    answer = nested_gcc_check(book, length);
+    if (answer != NESTED_GCC_GOOD) {
+        printf("check %u: no good book\n", (unsigned)answer);
+        return 1;
+    }
+    printf("check 0: a good book of %u bytes\n", (unsigned)length);
     answer = nested_gcc_close(book, length, lowers, sizeof lowers, uppers, sizeof uppers);
     printf("close %u: %s\n", (unsigned)answer, answer == NESTED_GCC_LIVE ? "live" : "dead, there is no plan");
     answer = nested_gcc_settle(book, length, masks, sizeof masks);

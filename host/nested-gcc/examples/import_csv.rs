@@ -9,7 +9,7 @@ use nested_gcc::{check, close, import_csv, settle, Refusal, Table};
 /// The file that is imported where none is named, from the root of the repository.
 pub const ORDERS: &str = "data/orders.csv";
 
-/// What the program prints of the file `name`, which holds `text`.
+/// What the program prints of the file `name`, which holds `text`; or what refuses the text, or its book.
 pub fn report(name: &str, text: &[u8]) -> Result<String, Refusal> {
     let book = import_csv(text)?;
     check(&book)?;
@@ -54,9 +54,13 @@ fn write_slots(table: &Table, masks: &[u32], report: &mut String) {
     }
 }
 
-/// What the program prints of a file that is refused.
+/// What the program prints of a file that is refused. Number 6 has one cause in a CSV: there is no second byte of a row.
 pub fn refused(name: &str, refusal: Refusal) -> String {
-    format!("{name}: refused by {}: {refusal}\n", refusal.number())
+    let cause = match refusal {
+        Refusal::RowType => "row type k or more".to_string(),
+        _ => refusal.to_string(),
+    };
+    format!("{name}: refused by {}: {cause}\n", refusal.number())
 }
 
 #[allow(dead_code)] // the test includes this file as a module

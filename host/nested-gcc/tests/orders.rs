@@ -82,7 +82,7 @@ fn what_is_expected_is_the_second_filters() {
     assert_eq!(lines.join("\n") + "\n", EXPECTED);
 }
 
-/// A spreadsheet that saves with line feeds alone; a column too many; a dead book, which is no refusal.
+/// A spreadsheet that saves with line feeds alone; a column too many; a type k; a dead book, which is no refusal.
 #[test]
 fn files_that_go_wrong() {
     let text: Vec<u8> = TEXT.iter().copied().filter(|&byte| byte != b'\r').collect();
@@ -96,6 +96,8 @@ fn files_that_go_wrong() {
         refused(ORDERS, Refusal::Field),
         "data/orders.csv: refused by 18: wrong number of fields, or a field not one to five digits\n"
     );
+    assert_eq!(report(ORDERS, b"2,2\r\n2,1,0,\r\n"), Err(Refusal::RowType));
+    assert_eq!(refused(ORDERS, Refusal::RowType), "data/orders.csv: refused by 6: row type k or more\n");
     // M5: two of type 0 in one slot.
     let dead = "m5.csv: 2 slots, 2 types, 1 rows\ncheck 0: a good book of 28 bytes\n\
                 close 1: dead, there is no plan\nsettle 1: dead, there is no plan\n";
