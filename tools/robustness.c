@@ -1073,9 +1073,11 @@ static unsigned make_text(struct input *input) {
     return kind;
 }
 
-static const char *const import_room_kinds[] = { "as long as the book", "longer", "shorter", "any length" };
+static const char *const import_room_kinds[] = { "as long as the book before the text was damaged or replaced",
+                                                 "longer than that", "shorter than that", "any length" };
 
-/* From the length of the book, or of what it was before the text was damaged, that of the output. */
+/* The length of the output, from that of the book of the good orders. A text that is damaged, or replaced by random
+ * bytes, may say a longer book or a shorter one. */
 static unsigned make_import_room(struct input *input) {
     unsigned kind = (unsigned)"\0\0\0\1\1\2\3"[below(7)];
     if (kind == 1) input->imported_length += below(11);
