@@ -54,7 +54,8 @@ fn write_slots(table: &Table, masks: &[u32], report: &mut String) {
     }
 }
 
-/// What the program prints of a file that is refused. Number 6 has one cause in a CSV: there is no second byte of a row.
+/// What the program prints of a file that is refused. Number 6 has one cause in a CSV, which has no second byte of a
+/// row.
 pub fn refused(name: &str, refusal: Refusal) -> String {
     let cause = match refusal {
         Refusal::RowType => "row type k or more".to_string(),
