@@ -3,9 +3,9 @@
 --   answered number   0 where no number refuses, else 256 + the number
 --   checkAnswer b     what check answers for the bytes b: 0 for a good book
 --   CloseEntry b L U r L′ U′   of book b and the outputs L and U as they are lent: r is what close answers, and L′ and U′ are the outputs as they
---                     come back; elements are 16 bits, little-endian, and a trailing byte neither counts nor is stored
+--                     come back; elements are 16 bits, little-endian, and a trailing byte neither counts nor is written
 --   SettleEntry b M r M′   of book b and the output M as it is lent: r is what settle answers, and M′ is the output as it comes back; masks are
---                     32 bits, little-endian, and up to three trailing bytes neither count nor are stored
+--                     32 bits, little-endian, and up to three trailing bytes neither count nor are written
 --   SessionEntry b calls A M r A′ M′   of book b, a call list and the outputs A and M as they are lent: r is what session answers, and A′ and M′
 --                     are the outputs as they come back; words and masks are 32 bits, little-endian
 --   ImportEntry s o r o′   of the text s and the output o as it is lent: r is what import_csv answers, and o′ is the output as it comes back
