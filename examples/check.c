@@ -4,7 +4,7 @@
 
 int main(void) {
     static const uint8_t book[] = {
-        3, 0, 2, 0, 1, 0, 12, 0, 24, 0, 32, 0,  /* n, k, 0, r, masks at, rows at, length */
+        3, 0, 2, 0, 1, 0, 12, 0, 24, 0, 32, 0,  /* n, k, no idle type, r, masks at, rows at, length */
         3, 0, 0, 0, 3, 0, 0, 0, 3, 0, 0, 0,     /* masks */
         0, 0, 2, 0, 1, 0, 255, 255,             /* type, 0, end, lower, upper */
     };

@@ -8,7 +8,7 @@ static const char *meaning(uint32_t answer) {
     case NESTED_GCC_GOOD: return "good book";
     case NESTED_GCC_TOO_SHORT: return "book under 12 bytes";
     case NESTED_GCC_OUT_OF_RANGE: return "n, k or r out of range";
-    case NESTED_GCC_RESERVED_BYTE: return "byte 3 not 0";
+    case NESTED_GCC_IDLE_TYPE: return "byte 3 above k";
     case NESTED_GCC_LAYOUT: return "an offset or length differs, or the lent length does";
     case NESTED_GCC_MASK: return "mask 0, or a bit from k up";
     case NESTED_GCC_ROW_TYPE: return "row type k or more, or its second byte not 0";

@@ -24,7 +24,7 @@ static void print_line(const char *name, const uint8_t *bounds, int v) {
 
 int main(void) {
     static uint8_t book[] = {
-        5, 0, 2, 0, 1, 0, 12, 0, 32, 0, 40, 0,                       /* n, k, 0, r, offsets, length */
+        5, 0, 2, 0, 1, 0, 12, 0, 32, 0, 40, 0,                       /* n, k, no idle type, r, offsets, length */
         3, 0, 0, 0, 3, 0, 0, 0, 3, 0, 0, 0, 3, 0, 0, 0, 3, 0, 0, 0,  /* masks */
         0, 0, 4, 0, 2, 0, 255, 255,                                  /* type, 0, end, lower, upper */
     };

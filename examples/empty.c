@@ -4,7 +4,7 @@
 #include <stdio.h>
 
 static const uint8_t book[] = {
-    1, 0, 2, 0, 0, 0, 12, 0, 16, 0, 16, 0,  /* n, k, 0, r, masks at, rows at, length */
+    1, 0, 2, 0, 0, 0, 12, 0, 16, 0, 16, 0,  /* n, k, no idle type, r, masks at, rows at, length */
     3, 0, 0, 0,                             /* mask */
 };
 static const uint8_t call[] = { NESTED_GCC_SHOW, 0, 0, 0 };

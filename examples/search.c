@@ -46,7 +46,7 @@ static void put16(uint8_t *at, unsigned value) {
 }
 
 static void write_book(void) {
-    const unsigned fields[] = { SLOTS, TYPES, ROWS, 12, 12 + 4 * SLOTS, BOOK_BYTES }; /* TYPES: k, and then a byte 0 */
+    const unsigned fields[] = { SLOTS, TYPES, ROWS, 12, 12 + 4 * SLOTS, BOOK_BYTES }; /* TYPES: k, and no idle type */
     int i;
     for (i = 0; i < 6; i++) put16(book + 2 * i, fields[i]);
     for (i = 0; i < SLOTS; i++) put16(book + 12 + 4 * i, book_masks[i]); /* the other two bytes are 0 */

@@ -7,7 +7,7 @@
 
 int main(void) {
     static uint8_t book[] = {
-        5, 0, 3, 0, 2, 0, 12, 0, 32, 0, 48, 0,                       /* n, k, 0, r, offsets, length */
+        5, 0, 3, 0, 2, 0, 12, 0, 32, 0, 48, 0,                       /* n, k, no idle type, r, offsets, length */
         1, 0, 0, 0, 1, 0, 0, 0, 7, 0, 0, 0, 7, 0, 0, 0, 7, 0, 0, 0,  /* masks */
         1, 0, 5, 0, 2, 0, 255, 255,                                  /* type, 0, end, lower, upper */
         2, 0, 5, 0, 1, 0, 255, 255,

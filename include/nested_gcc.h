@@ -18,11 +18,14 @@
  * nested_gcc_version     the version of the archive
  *
  * A book, in little-endian numbers: slots n (2 bytes, 1 to NESTED_GCC_SLOTS_MOST), types k (1 byte, 1 to
- * NESTED_GCC_TYPES_MOST), a byte 0, row count r (2 bytes, 0 to NESTED_GCC_ROWS_MOST), offset of the masks
- * (2 bytes, 12), offset of the rows (2 bytes, 12 + 4n), length (2 bytes, 12 + 4n + 8r); then n masks of
+ * NESTED_GCC_TYPES_MOST), the idle byte (1 byte, 0 to k), row count r (2 bytes, 0 to NESTED_GCC_ROWS_MOST), offset
+ * of the masks (2 bytes, 12), offset of the rows (2 bytes, 12 + 4n), length (2 bytes, 12 + 4n + 8r); then n masks of
  * 4 bytes, bit v saying that type v may go in that slot; then r rows of 8 bytes: type (1 byte), a byte 0,
  * end, lower, upper (2 bytes each). A row says that the first `end` slots have at least `lower` and at most
  * `upper` of the type; upper NESTED_GCC_NO_UPPER means no upper bound.
+ *
+ * The idle byte is 0, or a type plus 1: the type that means that the line stands. What a session tells as struck
+ * leaves that type out; bounds, masks, walls, and what is dead or refused do not depend on it.
  *
  * For every function here:
  * - There is no premise on the bytes of a book, a list of calls or a text. If they are readable and the outputs
@@ -65,9 +68,9 @@ extern "C" {
 
 /* The version of this header: major, when a signature changes, or what a good input was answered; minor, when an
  * entry is added, or what was refused is accepted or refused by another number; patch else. CHANGELOG.md tells them. */
-#define NESTED_GCC_VERSION "1.2.0"
+#define NESTED_GCC_VERSION "1.3.0"
 #define NESTED_GCC_VERSION_MAJOR 1u
-#define NESTED_GCC_VERSION_MINOR 2u
+#define NESTED_GCC_VERSION_MINOR 3u
 #define NESTED_GCC_VERSION_PATCH 0u
 #define NESTED_GCC_VERSION_NUMBER \
     (NESTED_GCC_VERSION_MAJOR * 65536u + NESTED_GCC_VERSION_MINOR * 256u + NESTED_GCC_VERSION_PATCH)
@@ -99,7 +102,7 @@ uint32_t nested_gcc_version(void);
 #define NESTED_GCC_REFUSED 256u
 #define NESTED_GCC_TOO_SHORT (NESTED_GCC_REFUSED + 1u)        /* book under 12 bytes */
 #define NESTED_GCC_OUT_OF_RANGE (NESTED_GCC_REFUSED + 2u)     /* n, k or r out of range */
-#define NESTED_GCC_RESERVED_BYTE (NESTED_GCC_REFUSED + 3u)    /* byte 3 not 0 */
+#define NESTED_GCC_IDLE_TYPE (NESTED_GCC_REFUSED + 3u)        /* byte 3 above k */
 #define NESTED_GCC_LAYOUT (NESTED_GCC_REFUSED + 4u)           /* an offset or length differs, or the lent length does */
 #define NESTED_GCC_MASK (NESTED_GCC_REFUSED + 5u)             /* mask 0, or a bit from k up */
 #define NESTED_GCC_ROW_TYPE (NESTED_GCC_REFUSED + 6u)         /* row type k or more, or its second byte not 0 */
@@ -109,6 +112,9 @@ uint32_t nested_gcc_version(void);
 #define NESTED_GCC_CALL_LIST (NESTED_GCC_REFUSED + 10u)       /* call list not whole calls, or too long */
 #define NESTED_GCC_QUOTING (NESTED_GCC_REFUSED + 17u)         /* quoting or a line end breaks RFC 4180 */
 #define NESTED_GCC_FIELD (NESTED_GCC_REFUSED + 18u)           /* wrong number of fields, or a field not 1 to 5 digits */
+
+/* The older name of number 3. */
+#define NESTED_GCC_RESERVED_BYTE NESTED_GCC_IDLE_TYPE
 
 /*
  * Whether the book_len bytes at book are a good book: NESTED_GCC_GOOD, or the refusal that comes first.
@@ -129,8 +135,8 @@ uint32_t nested_gcc_check(const uint8_t *book, size_t book_len);
  * semicolons and a first record padded by commas (12,4,,), as spreadsheets may write them, are refused too.
  *
  * NESTED_GCC_GOOD: the text is accepted. Writes its book, 12 + 4 * slots + 8 * rows bytes: the text's slots and types,
- *     every type in every mask, and the rows in the order of their records. That book is good for nested_gcc_check. It
- *     may be dead: that is not looked at here, and 1 is never the answer.
+ *     no idle type, every type in every mask, and the rows in the order of their records. That book is good for
+ *     nested_gcc_check. It may be dead: that is not looked at here, and 1 is never the answer.
  * Refusals, by the first of these:
  *     - for each record in turn, which is read to its end, 17, then 18.
  *       17: a line end is not CRLF (a CR or LF alone, also at the end of the text); a quote in a bare field; a quote
@@ -225,7 +231,7 @@ uint32_t nested_gcc_settle(const uint8_t *book, size_t book_len, uint8_t *masks,
 #define NESTED_GCC_LOWER_WALLS 7u /* the number of lower walls of the type */
 
 /* The first word of the answer to a call; what the second is. */
-#define NESTED_GCC_CALL_LIVE 0u  /* a decision; how many types were struck from the masks */
+#define NESTED_GCC_CALL_LIVE 0u  /* a decision; how many types were struck from the masks, the idle type left out */
 #define NESTED_GCC_CALL_DEAD 1u  /* a decision that leaves no stable list; 0 */
 #define NESTED_GCC_CALL_VALUE 2u /* a show or a number of walls; the mask or the number */
 #define NESTED_GCC_CALL_DONE 3u  /* a mark or a back; 0 */
@@ -252,9 +258,10 @@ uint32_t nested_gcc_settle(const uint8_t *book, size_t book_len, uint8_t *masks,
  * saved. It opens live with the masks of nested_gcc_settle. If the book is dead it opens dead, every mask is 0, and
  * so is every number of walls.
  * - Assign and remove are decisions: they cut the slot's mask. If a stable list (see nested_gcc_settle) lies within
- *   the cut masks, the largest becomes the masks, and struck is how many ones the masks lost. If there is none the
- *   session is dead and the masks stay as they were before. So assigning a type that the slot lacks is dead, and
- *   removing one that it lacks is live with 0 struck.
+ *   the cut masks, the largest becomes the masks, and struck is how many ones the masks lost, those of the idle type
+ *   left out. If there is none the session is dead and the masks stay as they were before. So assigning a type that
+ *   the slot lacks is dead, and removing one that it lacks is live with 0 struck. A decision that takes only the idle
+ *   type from slots is live with 0 struck too.
  * - A mark saves the masks. A back restores those of the latest open mark, and a dead session is live again.
  * - Show and the walls change nothing. They read the masks, also while the session is dead.
  * A refused call changes nothing, and the list goes on. It is refused by the first number that applies, in this

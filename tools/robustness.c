@@ -15,6 +15,10 @@
  * - both runs answer and write the same;
  * - dead writes zeros; live writes lowers at most uppers, and masks that are not empty and lie within the book's; the
  *   words of a call are such as nested_gcc.h names, and the last masks of a session lie within those of settle.
+ * Then a good book goes once more through close, settle and session, with another idle type or none. What must hold:
+ * - the answers and all that is written are the same, but for the second word of an answer live; that is not less for
+ *   the book that has no idle type;
+ * - in a session without marks the struck figures add up to what the masks lost since settle's, the idle type left out.
  * Then the same book and calls go twice through a kept session (open, step, call), each time cut into other pieces, in
  * a state that held other bytes, with lists and lengths to be refused between them and the state moved now and then.
  * What must hold:
@@ -31,7 +35,7 @@
  * - both runs answer and write the same;
  * - check takes the book, all its masks are full, it is the one that the text was made from, if it was; and its own
  *   records, written plainly, import as the same book.
- * With -DSHAM=1 to 19 a wrong library is judged, and must be found out: see the functions `sham` below.
+ * With -DSHAM=1 to 22 a wrong library is judged, and must be found out: see the functions `sham` below.
  */
 #define _DEFAULT_SOURCE
 #include "nested_gcc.h"
@@ -201,6 +205,34 @@ static uint32_t library(enum entry entry, struct lent book, struct lent calls, s
     }
 }
 
+/* With SHAM, a session that counts the idle type as struck. */
+static uint32_t idle_counted(struct lent book, struct lent calls, struct lent first, struct lent second) {
+    uint8_t idle = book.length < 12 ? 0 : book.at[3];
+    uint32_t answer;
+    if (idle != 0 && idle <= book.at[2]) book.at[3] = 0;
+    answer = library(SESSION, book, calls, first, second);
+    if (idle != 0) book.at[3] = idle;
+    return answer;
+}
+
+/* With SHAM, no walls of the idle type. */
+static void no_idle_walls(struct lent book, struct lent calls, struct lent answers) {
+    size_t i;
+    for (i = 0; i < calls.length / 4; i++) {
+        const uint8_t *call = calls.at + 4 * i;
+        if ((call[0] == 6 || call[0] == 7) && call[1] + 1 == book.at[3]) memset(answers.at + 8 * i + 4, 0, 4);
+    }
+}
+
+/* With SHAM, the idle type left out of every mask that has others. */
+static void no_idle_type(struct lent book, struct lent masks) {
+    size_t slot, n = book.at[0] + 256u * book.at[1];
+    for (slot = 0; slot < n && book.at[3] != 0; slot++) {
+        uint32_t mask = word(masks.at, slot), rest = mask & ~(1u << (book.at[3] - 1));
+        if (rest != 0) memcpy(masks.at + 4 * slot, &rest, 4);
+    }
+}
+
 /* What the library does, or with SHAM a library that is wrong in one way. */
 static uint32_t sham(enum entry entry, struct lent book, struct lent calls, struct lent first, struct lent second) {
     static unsigned turns;
@@ -209,6 +241,7 @@ static uint32_t sham(enum entry entry, struct lent book, struct lent calls, stru
     if (SHAM == 5 && entry == CHECK) beyond = book.at[book.length];            /* reads past the book */
     if (SHAM == 8 && entry == CLOSE && first.length > 0 && first.at[0] & 64) return 265; /* reads an output */
     (void)beyond;
+    if (SHAM == 21 && entry == SESSION) return idle_counted(book, calls, first, second);
     answer = library(entry, book, calls, first, second);
     turns++;
     if (SHAM == 1 && entry == SETTLE && answer == 0) first.at[first.length] ^= 1;   /* one byte past an output */
@@ -217,6 +250,8 @@ static uint32_t sham(enum entry entry, struct lent book, struct lent calls, stru
     if (SHAM == 4 && entry == CHECK && answer == 0 && book.at[2] == 3) return 1;      /* a good book called dead */
     if (SHAM == 6 && entry == SETTLE && answer == 1) first.at[0] = 1;                 /* dead, and a mask left */
     if (SHAM == 7 && entry == SESSION && answer >= 257 && answer <= 264) return 266;  /* a refusal out of order */
+    if (SHAM == 20 && entry == SESSION && answer == 0) no_idle_walls(book, calls, first);
+    if (SHAM == 22 && entry == SETTLE && answer == 0) no_idle_type(book, first);
     return answer;
 }
 
@@ -358,6 +393,71 @@ static void judge_outputs(const struct input *input) {
         if ((word(session->second, slot) & ~word(settle->first, slot)) != 0)
             fail("slot %zu: the last mask is not within settle's", slot);
     }
+}
+
+/* ---- the idle type ---- */
+
+static unsigned long idle_books, other_figures;
+
+/* The ones of the masks, the idle type left out. */
+static unsigned long news(const struct input *input, const uint8_t *masks) {
+    unsigned long sum = 0;
+    unsigned v;
+    size_t slot;
+    for (slot = 0; slot < book_slots(input); slot++) {
+        for (v = 0; v < 32; v++) sum += v + 1 != input->book[3] && (word(masks, slot) >> v & 1u) != 0;
+    }
+    return sum;
+}
+
+/* Without marks the struck figures of a session add up. */
+static void judge_struck(const struct input *input) {
+    const struct outcome *settle = &outcomes[SETTLE], *session = &outcomes[SESSION];
+    unsigned long struck = 0;
+    size_t i;
+    if (settle->answer != 0 || session->answer != 0) return;
+    for (i = 0; i < input->calls_length / 4; i++) {
+        if (word(session->first, 2 * i) == 3) return;
+        if (word(session->first, 2 * i) == 0) struck += word(session->first, 2 * i + 1);
+    }
+    if (news(input, settle->first) != struck + news(input, session->second))
+        fail("%lu struck in all, and that is not what the masks lost", struck);
+}
+
+/* The words of a session on the book, and on the same with another idle type. */
+static void judge_figures(const struct input *input, const struct input *other, const struct outcome *outcome) {
+    const uint8_t *here = outcomes[SESSION].first, *there = outcome->first;
+    size_t i;
+    for (i = 0; i < input->calls_length / 4; i++) {
+        uint32_t first = word(here, 2 * i), figure = word(here, 2 * i + 1), another = word(there, 2 * i + 1);
+        if (first != word(there, 2 * i)) fail("call %zu: another first word with another idle type", i);
+        if (first != 0 && figure != another) fail("call %zu: another second word with another idle type", i);
+        if ((input->book[3] == 0 && figure < another) || (other->book[3] == 0 && another < figure))
+            fail("call %zu: more struck with an idle type than without", i);
+        other_figures += figure != another;
+    }
+}
+
+/* A good book, and the same with another idle type or none. */
+static void judge_idle(const struct input *input) {
+    static struct input other;
+    static struct outcome outcome;
+    int entry;
+    if (outcomes[CHECK].answer != 0) return;
+    idle_books += input->book[3] != 0;
+    judge_struck(input);
+    memcpy(&other, input, sizeof other);
+    other.book[3] = (uint8_t)((input->book[3] + 1 + number % book_types(input)) % (book_types(input) + 1));
+    for (entry = CHECK; entry < ENTRIES; entry++) {
+        const struct outcome *here = &outcomes[entry];
+        run_once((enum entry)entry, &other, (int)(number % 2), &outcome);
+        if (outcome.answer != here->answer) fail("%s: another answer with another idle type", entry_names[entry]);
+        if (entry != SESSION && memcmp(outcome.first, here->first, here->first_written) != 0)
+            fail("%s: another output with another idle type", entry_names[entry]);
+        if (memcmp(outcome.second, here->second, here->second_written) != 0)
+            fail("%s: another second output with another idle type", entry_names[entry]);
+    }
+    if (outcome.answer < 2) judge_figures(input, &other, &outcome);
 }
 
 /* ---- a kept session ---- */
@@ -693,6 +793,7 @@ static void judge(const struct input *input) {
     for (entry = CHECK; entry < ENTRIES; entry++) run_twice((enum entry)entry, input);
     judge_answers(input);
     judge_outputs(input);
+    judge_idle(input);
     judge_kept(input);
     judge_import(input);
 }
@@ -723,7 +824,7 @@ static void put_word(uint8_t *at, uint32_t value) {
     put_half(at + 2, value >> 16);
 }
 
-/* The header of a book with n slots, k types and r rows; its length. */
+/* The header of a book with n slots, k types, none of them idle, and r rows; its length. */
 static size_t put_header(uint8_t *book, unsigned n, unsigned k, unsigned r) {
     unsigned rows_at = 12 + 4 * n, length = rows_at + 8 * r;
     put_half(book, n);
@@ -788,6 +889,7 @@ static void good_book(struct input *input, int large) {
     int near = below(4) != 0;
     uint8_t plan[256];
     input->book_length = put_header(input->book, n, k, r);
+    input->book[3] = (uint8_t)(number % (k + 1)); /* none idle, or by turns each */
     for (slot = 0; slot < n; slot++) {
         uint32_t mask = 1u << (plan[slot] = (uint8_t)below(k));
         for (v = 0; v < k; v++) mask |= (uint32_t)(below(8) < others) << v;
@@ -1152,6 +1254,8 @@ static void print_counts(void) {
     print_line("count", first_words, 10);
     printf("\nBeside their steps the kept sessions made %lu single calls, and were moved to another place %lu times.\n",
            single_calls, moves);
+    printf("%lu inputs had a good book with an idle type. With another idle type, or none, %lu live answers had "
+           "another struck figure.\n", idle_books, other_figures);
     print_head("import's answers by kind of text", of_import, IMPORT_ANSWERS);
     for (i = 0; i < TEXT_KINDS; i++) print_line(text_kinds[i], by_text[i], IMPORT_ANSWERS);
     print_head("import's answers by output", of_import, IMPORT_ANSWERS);
@@ -1220,14 +1324,16 @@ static uint32_t every_type(unsigned k) { return 0xffffffffu >> (32 - k); }
 
 /* Makes a book of any bytes good: header, masks and rows are cut to what they may be. */
 static void repair_book(struct input *input) {
-    unsigned n, k, r, i;
+    unsigned n, k, r, i, idle;
     size_t length = input->book_length;
     if (length < 12) return;
     n = 1 + (input->book[0] + (input->book[1] & 1u) * 128u) % 256;
     k = 1 + input->book[2] % 32u;
     r = input->book[4] % 65u;
+    idle = input->book[3] % (k + 1);
     memset(input->book + length, 0, BOOK_ROOM - length);
     input->book_length = put_header(input->book, n, k, r);
+    input->book[3] = (uint8_t)idle;
     for (i = 0; i < n; i++) {
         uint32_t mask = book_mask(input, i) & every_type(k);
         put_word(input->book + 12 + 4 * i, mask == 0 ? every_type(k) : mask);

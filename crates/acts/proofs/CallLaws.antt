@@ -55,7 +55,7 @@ mark-answered : {T : Table} {R : Rules} {S : State} {masks cells trail heights :
     → Represents T R S masks cells trail heights n k session → Marking heights session → (i : ℕ)
     → Answered T R (act R S Calls.mark) (stand (standingOf (session .standing)) i Calls.mark (act R S Calls.mark .1)) masks cells trail
     (set heights (session .marks) (session .top)) n k
-    (record { session = record { standing = Live; top = session .top; marks = session .marks + 1 }; first = 3; second = 0 })
+    (record { session = record { standing = Live; top = session .top; marks = session .marks + 1; idle = session .idle }; first = 3; second = 0 })
 unfolding stand
 mark-answered {T} {R} {S} {heights = heights} {n = n} {k = k} {session} represents marking i =
     let longer = length-set heights (session .marks) (session .top) in
@@ -70,11 +70,13 @@ mark-answered {T} {R} {S} {heights = heights} {n = n} {k = k} {session} represen
                   values = represents .suits .values;
                   limit = represents .suits .limit ∙ sym longer;
                   ones = represents .suits .ones;
+                  idle-known = represents .suits .idle-known;
                 };
             masks-are = represents .masks-are;
             flag = rw (marking .live) at (represents .flag);
             marks-are = omega (arith, represents .marks-are);
             marks-in = omega (arith, longer, marking .free);
+            top-fits = represents .top-fits;
             stands =
                 working-mark (S .masks) (session .marks) (represents .masks-are) (represents .marks-are) (marking .free)
                 (live-working represents (marking .live));
@@ -86,7 +88,7 @@ mark-answered {T} {R} {S} {heights = heights} {n = n} {k = k} {session} represen
 
 pub mark-acts : {heights : List ℕ} {session : Session} → Marking heights session → (masks cells trail : List ℕ) (n k i : ℕ)
     → Acts n k i Calls.mark session masks cells trail heights masks cells trail (set heights (session .marks) (session .top))
-    (record { session = record { standing = Live; top = session .top; marks = session .marks + 1 }; first = 3; second = 0 })
+    (record { session = record { standing = Live; top = session .top; marks = session .marks + 1; idle = session .idle }; first = 3; second = 0 })
 mark-acts marking masks cells trail n k i = record { does = λ T R S represents. mark-answered represents marking i }
 
 -- ---- back
@@ -162,7 +164,7 @@ module _ {T : Table} {R : Rules} {S : State} {masks cells trail heights : List �
           })
 
       back-answered : Answered T R (act R S Calls.back) (stand (standingOf (session .standing)) i Calls.back (act R S Calls.back .1)) masks′ cells′ trail
-          heights n k (record { session = record { standing = Live; top = from; marks = session .marks - 1 }; first = 3; second = 0 })
+          heights n k (record { session = record { standing = Live; top = from; marks = session .marks - 1; idle = session .idle }; first = 3; second = 0 })
       unfolding stand
       back-answered =
           let room = represents .room in
@@ -184,6 +186,7 @@ module _ {T : Table} {R : Rules} {S : State} {masks cells trail heights : List �
                   flag = refl;
                   marks-are = omega (arith, length-is, represents .marks-are);
                   marks-in = omega (arith, represents .marks-in);
+                  top-fits = omega (arith, back-working .base .room, room .heights-fit);
                   stands = back-working;
                 };
             first = refl;
@@ -198,7 +201,7 @@ module _ {masks cells trail heights : List ℕ} {n k : ℕ} {session : Session} 
 
   pub back-acts : {masks′ cells′ : List ℕ} → Undone masks cells trail n k from (session .top) masks′ cells′ → (i : ℕ)
       → Acts n k i Calls.back session masks cells trail heights masks′ cells′ trail heights
-      (record { session = record { standing = Live; top = from; marks = session .marks - 1 }; first = 3; second = 0 })
+      (record { session = record { standing = Live; top = from; marks = session .marks - 1; idle = session .idle }; first = 3; second = 0 })
   back-acts undone i = record { does = λ T R S represents. back-answered represents (backing .marked) from from-is undone i }
 
 -- ---- the calls that only read

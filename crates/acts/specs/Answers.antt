@@ -4,20 +4,21 @@
 --   Acts ..                so it is for the call c, whatever state of whatever machine the slices stood for, by whatever table, where no number
 --                          refuses c
 --   Deciding, Marking, Backing, Counting   what the calls need that no number refuses
---   Strikes n trail from to   the trail has a strike at each height from `from` up to `to`
---   OnesLost n trail from to x   x is how many strikes there are from height `from` up to `to`, and so the ones of the masks before them less those
---                          after them, whatever masks they lead between
+--   Strikes n idle trail from to   the trail has a strike at each height from `from` up to `to`
+--   newsStruck idle n trail from j   how many of the j strikes from height `from` on took out another value than the idle one
+--   OnesLost n idle trail from to x   x is that many of the strikes from height `from` up to `to`, and so the ones of the masks before them less those
+--                          after them, the idle value left out, whatever masks they lead between
 -- Assumes nothing.
 use mathlib.Core.Path.{_≡_}
 use mathlib.Core.List.{List}
-use Prim.Native.Nat.{ℕ, _+_, _-_, _*_, _≤_, _<_}
+use Prim.Native.Nat.{ℕ, zero, suc, _+_, _-_, _*_, _^_, _≤_, _<_}
 use lib.ListN.{length}
-use Rattle.domains.specs.Masks.{total}
 use Rattle.closing_model.specs.Table.{Table}
 use Rattle.filter_model.specs.Open.{cellsSize}
-use Rattle.filter_model.specs.Trail.{Restores}
+use Rattle.filter_model.specs.Trail.{valueAt, Restores}
 use Rattle.session_model.specs.Calls as Calls
 use Rattle.session_model.specs.Machine.{act}
+use Rattle.session_model.specs.News.{news, newsTotal}
 use Rattle.session_model.specs.Standing as Model
 use Rattle.session_model.specs.State.{Rules, State, Reply, words}
 use Rattle.acts.specs.Given.{standingOf}
@@ -44,18 +45,23 @@ pub record Deciding (masks cells trail heights : List ℕ) (n k : ℕ) (session 
   pub slot-in : slot < n
   pub value-in : v < k
 
-pub record Strikes (n : ℕ) (trail : List ℕ) (from to : ℕ) : Type 0 where
+pub record Strikes (n idle : ℕ) (trail : List ℕ) (from to : ℕ) : Type 0 where
   pub order : from ≤ to
   pub upto : 2 * n + 3 * to ≤ length trail
-  -- a height fits 16 bits
+  -- a height fits 16 bits, and the idle value the mask
   pub heights-fit : length trail < 65536
+  pub idle-fits : idle ≤ 32
 
-pub record OnesLost (n : ℕ) (trail : List ℕ) (from to x : ℕ) : Type 0 where
-  -- one for each strike, whatever the trail holds
-  pub strikes : x ≡ to - from
+unfoldable pub newsStruck : ℕ → ℕ → List ℕ → ℕ → ℕ → ℕ
+newsStruck idle n trail from zero = 0
+newsStruck idle n trail from (suc j) = newsStruck idle n trail from j + news idle (2 ^ valueAt n trail (from + j))
+
+pub record OnesLost (n idle : ℕ) (trail : List ℕ) (from to x : ℕ) : Type 0 where
+  -- one for each strike of another value than the idle one, whatever the trail holds
+  pub strikes : x ≡ newsStruck idle n trail from (to - from)
   -- taken back, the strikes lead from the masks after them to those before
   pub difference : (k : ℕ) (before after cells cells′ : List ℕ) → Restores n k trail from (to - from) after cells′ before cells
-      → x + total after ≡ total before
+      → x + newsTotal idle after ≡ newsTotal idle before
 
 pub record Marking (heights : List ℕ) (session : Session) : Type 0 where
   pub live : session .standing ≡ Live

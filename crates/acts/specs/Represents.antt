@@ -1,6 +1,6 @@
 -- When the lent slices and a session stand for a state S of the plain machine with the rules R, by the closed table T.
 --   Room          the slices have room for n slots and k values
---   Suits         the rules' sizes are those of the slices
+--   Suits         the rules' sizes are those of the slices, and their ones leave the idle value out
 --   Governs       the rules settle and count walls by the closed table T
 --   Base          a stable list M at the trail's height h, with room on the trail for every value that is left
 --   Entry         the strikes from the height g on, taken back from M and its cells, lead to M′ and the cells that mirrored it
@@ -23,6 +23,7 @@ use Rattle.settling_model.specs.Stable.{Stable, tableBounds}
 use Rattle.filter_model.specs.Mirror.{Mirror}
 use Rattle.filter_model.specs.Open.{cellsSize}
 use Rattle.filter_model.specs.Trail.{Restores}
+use Rattle.session_model.specs.News.{newsTotal}
 use Rattle.session_model.specs.State.{Rules, State}
 use Rattle.session_model.specs.Walls.{wallCount}
 use Rattle.acts.specs.Given.{isDead}
@@ -38,11 +39,12 @@ pub record Room (masks cells trail : List ℕ) (n k : ℕ) : Type 0 where
   pub values-fit : k ≤ 32
   pub heights-fit : length trail < 65536
 
-pub record Suits (R : Rules) (n k most : ℕ) : Type 0 where
+pub record Suits (R : Rules) (n k most idle : ℕ) : Type 0 where
   pub slots : R .slots ≡ n
   pub values : R .values ≡ k
   pub limit : R .limit ≡ most
-  pub ones : (M : List ℕ) → R .ones M ≡ total M
+  pub ones : (M : List ℕ) → R .ones M ≡ newsTotal idle M
+  pub idle-known : idle ≤ k
 
 pub record Governs (R : Rules) (n k : ℕ) (T : Table) : Type 0 where
   pub closed : Closed n k T
@@ -84,11 +86,13 @@ StandsFor (Dead call) T R saved masks cells trail heights n k top = Working T R 
 
 pub record Represents (T : Table) (R : Rules) (S : State) (masks cells trail heights : List ℕ) (n k : ℕ) (session : Session) : Type 0 where
   pub room : Room masks cells trail n k
-  pub suits : Suits R n k (length heights)
+  pub suits : Suits R n k (length heights) (session .idle)
   pub masks-are : S .masks ≡ masks
   pub flag : S .dead ≡ isDead (session .standing)
   pub marks-are : length (S .saved) ≡ session .marks
   pub marks-in : session .marks ≤ length heights
+  -- the trail's height fits 16 bits
+  pub top-fits : session .top < 65536
   pub stands : StandsFor (session .standing) T R (S .saved) masks cells trail heights n k (session .top)
 
 pub record Running (masks cells trail heights : List ℕ) (n k : ℕ) (session : Session) : Type 0 where

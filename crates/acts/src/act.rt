@@ -26,6 +26,7 @@ pub fn mark(heights: &mut [u16], session: Session) -> Stepped
         standing: Standing::Live,
         top,
         marks: marks + 1,
+        idle: session.idle,
     };
     Stepped {
         session: marked,
@@ -57,6 +58,7 @@ pub fn back(
         standing: Standing::Live, // dead becomes live
         top: from,
         marks,
+        idle: session.idle,
     };
     Stepped {
         session: live,

@@ -13,7 +13,7 @@ use lib.ListN.{length}
 use borrow.Author.Tests.{lt-ltb, le-ltb, le-leb, lt-leb, eq-eqb, ne-eqb, leb-true, leb-false, ltb-false, eqb-true, eqb-false, not-false}
 use Rattle.book.specs.declared.Limits.{Limits}
 use Rattle.book.specs.declared.Row.{Row}
-use Rattle.book.specs.Layout.{slots, values, reserved, rowCount, masksOffset, rowsOffset, bookLength, maskAt, rowsPart, rowAt}
+use Rattle.book.specs.Layout.{slots, values, idle, rowCount, masksOffset, rowsOffset, bookLength, maskAt, rowsPart, rowAt}
 use Rattle.book.specs.Refusal.{_orElse_, within, outOfRange, misplaced, headerFault, maskFault, rowFault, refusal, GoodBook}
 use Rattle.book.specs.GoodFacts.{HeaderFacts, MaskFacts, RowFacts, GoodFacts}
 use Rattle.book.proofs.LayoutLaws.{length-rowsPart}
@@ -48,7 +48,7 @@ header-facts limits b none =
       values-least = k .0;
       values-most = k .1;
       rows-most = leb-true (rowCount b) (limits .rows) (not-false _ (rows-in .1));
-      reserved-zero = same (reserved b) 0 (fault-none 3 (not (eqb (reserved b) 0)) (lit< tt) (from-3 .0));
+      idle-known = ltb-false (values b) (idle b) (fault-none 3 (ltb (values b) (idle b)) (lit< tt) (from-3 .0));
       masks-offset = same (masksOffset b) 12 (offsets .0);
       rows-offset = same (rowsOffset b) (12 + 4 * slots b) (offsets .1);
       given-length = same (bookLength b) (12 + 4 * slots b + 8 * rowCount b) (given .1);
@@ -65,7 +65,7 @@ facts-header limits b h =
       le-leb 1 (values b) (h .values-least),
       le-leb (values b) (limits .values) (h .values-most),
       le-leb (rowCount b) (limits .rows) (h .rows-most),
-      eq-eqb (reserved b) 0 (h .reserved-zero),
+      le-ltb (values b) (idle b) (h .idle-known),
       eq-eqb (masksOffset b) 12 (h .masks-offset),
       eq-eqb (rowsOffset b) (12 + 4 * slots b) (h .rows-offset),
       eq-eqb (bookLength b) (12 + 4 * slots b + 8 * rowCount b) (h .given-length),

@@ -1,3 +1,4 @@
 pub mod LayoutLaws
 pub mod RefusalLaws
 pub mod BookLaws
+pub mod IdleLaws

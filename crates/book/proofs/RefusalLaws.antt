@@ -16,7 +16,7 @@ use lib.ListN.{length}
 use borrow.Author.Tests.{lt-ltb, le-ltb, le-leb, lt-leb, eq-eqb, ne-eqb, eqb-true, eqb-false, not-true, not-false}
 use Rattle.book.specs.declared.Limits.{Limits}
 use Rattle.book.specs.declared.Row.{Row}
-use Rattle.book.specs.Layout.{slots, values, reserved, rowCount, maskAt, rowsPart, rowAt}
+use Rattle.book.specs.Layout.{slots, values, idle, rowCount, maskAt, rowsPart, rowAt}
 use Rattle.book.specs.Refusal.{fault, _orElse_, firstOf, within, outOfRange, misplaced, headerFault, maskFault, rowFault, refusal}
 
 -- ---- conditions
@@ -119,16 +119,16 @@ within-in most x 1≤x x≤most = simp (le-leb 1 x 1≤x, le-leb x most x≤most
 
 -- ---- headerFault
 -- byte 3 is looked at before the layout
-pub headerFault-reserved : (limits : Limits) (b : List ℕ) → ltb (length b) 12 ≡ false → outOfRange limits b ≡ false → (reserved b ≡ 0 → ⊥) → headerFault limits b ≡ 3
+pub headerFault-idle : (limits : Limits) (b : List ℕ) → ltb (length b) 12 ≡ false → outOfRange limits b ≡ false → values b < idle b → headerFault limits b ≡ 3
 unfolding headerFault
-headerFault-reserved limits b long in-range some = simp (long, in-range, ne-eqb (reserved b) 0 some)
+headerFault-idle limits b long in-range above = simp (long, in-range, lt-ltb (values b) (idle b) above)
 
 headerFault-le : (limits : Limits) (b : List ℕ) → headerFault limits b ≤ 4
 unfolding headerFault
 headerFault-le limits b =
     orElse-le _ _ 4 (le-trans (fault-le 1 (ltb (length b) 12)) (lit≤ tt))
     (orElse-le _ _ 4 (le-trans (fault-le 2 (outOfRange limits b)) (lit≤ tt))
-    (orElse-le _ _ 4 (le-trans (fault-le 3 (not (eqb (reserved b) 0))) (lit≤ tt)) (fault-le 4 (misplaced b))))
+    (orElse-le _ _ 4 (le-trans (fault-le 3 (ltb (values b) (idle b))) (lit≤ tt)) (fault-le 4 (misplaced b))))
 
 -- ---- maskFault
 -- of a mask that is not 0: its digits from k up are 0

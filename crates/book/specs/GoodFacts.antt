@@ -12,7 +12,7 @@ use Prim.Native.Nat.{ℕ, _+_, _*_, _^_, _≤_, _<_}
 use lib.ListN.{length}
 use Rattle.book.specs.declared.Limits.{Limits}
 use Rattle.book.specs.declared.Row.{Row}
-use Rattle.book.specs.Layout.{slots, values, reserved, rowCount, masksOffset, rowsOffset, bookLength, maskAt, rowsPart, rowAt}
+use Rattle.book.specs.Layout.{slots, values, idle, rowCount, masksOffset, rowsOffset, bookLength, maskAt, rowsPart, rowAt}
 
 pub record HeaderFacts (limits : Limits) (b : List ℕ) : Type 0 where
   pub header-inside : 12 ≤ length b
@@ -21,7 +21,7 @@ pub record HeaderFacts (limits : Limits) (b : List ℕ) : Type 0 where
   pub values-least : 1 ≤ values b
   pub values-most : values b ≤ limits .values
   pub rows-most : rowCount b ≤ limits .rows
-  pub reserved-zero : reserved b ≡ 0
+  pub idle-known : idle b ≤ values b
   pub masks-offset : masksOffset b ≡ 12
   pub rows-offset : rowsOffset b ≡ 12 + 4 * slots b
   pub given-length : bookLength b ≡ 12 + 4 * slots b + 8 * rowCount b

@@ -1,6 +1,7 @@
 -- Where the parts of a book stand among its bytes (document 01, 'The book'). Numbers are little-endian; past the end of a list stands 0.
 --   word16 s i, word32 s i   the number of 2 or of 4 bytes at place i
---   slots, values, reserved  n, k and byte 3 of the header
+--   slots, values            n and k of the header
+--   idle                     byte 3: 0 for no idle value, else that value plus 1
 --   rowCount                 r
 --   masksOffset, rowsOffset, bookLength   the offsets and the length that the header gives
 --   maskAt b s               the mask of slot s
@@ -27,8 +28,8 @@ slots b = word16 b 0
 abbrev pub values : List ℕ → ℕ
 values b = getD b 2 0
 
-abbrev pub reserved : List ℕ → ℕ
-reserved b = getD b 3 0
+abbrev pub idle : List ℕ → ℕ
+idle b = getD b 3 0
 
 abbrev pub rowCount : List ℕ → ℕ
 rowCount b = word16 b 4

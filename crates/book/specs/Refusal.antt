@@ -20,8 +20,8 @@ use lib.ListN.{length}
 use Rattle.book.specs.declared.Limits.{Limits}
 use Rattle.book.specs.declared.Row.{Row}
 use Rattle.book.specs.declared.Verdict.{Verdict}
-use Rattle.book.specs.declared.Verdict.the-variants.{Good, TooShort, OutOfRange, ReservedByte, WrongLayout, BadMask, BadRowValue, BadRowEnd, BadRowBound}
-use Rattle.book.specs.Layout.{slots, values, reserved, rowCount, masksOffset, rowsOffset, bookLength, maskAt, rowsPart, rowAt}
+use Rattle.book.specs.declared.Verdict.the-variants.{Good, TooShort, OutOfRange, UnknownIdle, WrongLayout, BadMask, BadRowValue, BadRowEnd, BadRowBound}
+use Rattle.book.specs.Layout.{slots, values, idle, rowCount, masksOffset, rowsOffset, bookLength, maskAt, rowsPart, rowAt}
 
 infixr 20 _orElse_
 abbrev pub fault : ℕ → Bool → ℕ
@@ -52,12 +52,12 @@ misplaced b =
     || not (eqb (bookLength b) (12 + 4 * slots b + 8 * rowCount b))
     || not (eqb (length b) (12 + 4 * slots b + 8 * rowCount b))
 
--- 1: under 12 bytes; 2: n, k or r out of range; 3: byte 3 not 0; 4: an offset or length differs, or the lent length does
+-- 1: under 12 bytes; 2: n, k or r out of range; 3: byte 3 above k; 4: an offset or length differs, or the lent length does
 unfoldable pub headerFault : Limits → List ℕ → ℕ
 headerFault limits b =
     fault 1 (ltb (length b) 12)
     orElse fault 2 (outOfRange limits b)
-    orElse fault 3 (not (eqb (reserved b) 0))
+    orElse fault 3 (ltb (values b) (idle b))
     orElse fault 4 (misplaced b)
 
 -- 5: the mask is 0, or has a bit from k up
@@ -85,7 +85,7 @@ abbrev pub numberOf : Verdict → ℕ
 numberOf Good = 0
 numberOf TooShort = 1
 numberOf OutOfRange = 2
-numberOf ReservedByte = 3
+numberOf UnknownIdle = 3
 numberOf WrongLayout = 4
 numberOf BadMask = 5
 numberOf BadRowValue = 6

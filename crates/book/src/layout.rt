@@ -23,6 +23,14 @@ pub fn values(book: &[u8]) -> usize
     byte(book, 2)
 }
 
+// Byte 3: 0 where no value is idle, else that value plus 1.
+pub fn idle(book: &[u8]) -> usize
+    requires { ⌜ 12 ≤ length (now book) ⌝ }
+    ensures { λ r. ⌜ (r ≡ Layout.idle (now (book .entry))) × (r < 256) ⌝ }
+{
+    byte(book, 3)
+}
+
 // r: how many rows the header gives.
 pub fn row_count(book: &[u8]) -> usize
     requires { ⌜ 12 ≤ length (now book) ⌝ }

@@ -3,6 +3,7 @@
 mod layout; // layout.rt: the numbers, masks and rows at their places
 
 pub use layout::byte;
+pub use layout::idle;
 pub use layout::mask_at;
 pub use layout::read16;
 pub use layout::row_at;
@@ -34,7 +35,7 @@ pub enum Verdict {
     Good,
     TooShort,
     OutOfRange,
-    ReservedByte,
+    UnknownIdle,
     WrongLayout,
     BadMask,
     BadRowValue,
@@ -50,7 +51,7 @@ pub fn number(verdict: Verdict) -> u32
         Verdict::Good => 0,
         Verdict::TooShort => 1,
         Verdict::OutOfRange => 2,
-        Verdict::ReservedByte => 3,
+        Verdict::UnknownIdle => 3,
         Verdict::WrongLayout => 4,
         Verdict::BadMask => 5,
         Verdict::BadRowValue => 6,

@@ -1,4 +1,4 @@
--- The laws of `specs/BookBytes.antt`: the reader finds in the bytes what was written. `slots-of`, `values-of`, `reserved-of`, `rowCount-of`,
+-- The laws of `specs/BookBytes.antt`: the reader finds in the bytes what was written. `slots-of`, `values-of`, `idle-of`, `rowCount-of`,
 -- `masks-of`, `rows-of`; `masksOffset-of`, `rowsOffset-of`, `bookLength-of` for the numbers that follow from these, and `length-of`.
 -- No contract cites this file. Assumes nothing.
 use mathlib.Core.Path.{_≡_, refl, sym, ap, _∙_}
@@ -9,7 +9,8 @@ use lib.ListN.{length, getD, drop, length-append}
 use lib.Seq.{ext-getD, getD-append-add, drop-at}
 use Rattle.elements.specs.Elements.{digits, bytesOf}
 use Rattle.book.specs.declared.Row.{Row}
-use Rattle.book.specs.Layout.{word16, word32, slots, values, reserved, rowCount, masksOffset, rowsOffset, bookLength}
+use Rattle.book.specs.Layout as Layout
+use Rattle.book.specs.Layout.{word16, word32, slots, values, rowCount, masksOffset, rowsOffset, bookLength}
 use Rattle.book.specs.Layout.{maskAt, rowsPart, rowAt, listOf, masks, rows}
 use Rattle.book.proofs.LayoutLaws.{length-listOf, getD-listOf}
 use Rattle.book.specs.Lists.{All}
@@ -33,8 +34,8 @@ module _ (n k idle : ℕ) (ms : List ℕ) (rs : List Row) (fits : BookFits n ms 
   pub values-of : values book ≡ k
   values-of = refl
 
-  pub reserved-of : reserved book ≡ idle
-  reserved-of = refl
+  pub idle-of : Layout.idle book ≡ idle
+  idle-of = refl
 
   pub rowCount-of : rowCount book ≡ length rs
   rowCount-of = word-digits (length rs) (omega (arith, fits .length))

@@ -2,7 +2,7 @@
 // The contracts cite book's `specs/Refusal.antt`.
 use book::Limits;
 use book::Verdict;
-use book::byte;
+use book::idle;
 use book::read16;
 use book::row_count;
 use book::slots;
@@ -23,8 +23,8 @@ pub fn header_verdict(book: &[u8], limits: Limits) -> Verdict
     if out_of_range(book, limits) {
         return Verdict::OutOfRange;
     }
-    if byte(book, 3) != 0 {
-        return Verdict::ReservedByte;
+    if values(book) < idle(book) {
+        return Verdict::UnknownIdle;
     }
     if misplaced(book) {
         return Verdict::WrongLayout;

@@ -11,7 +11,7 @@ use lib.ListN.{length, drop, length-drop}
 use lib.Seq.{sets, length-sets}
 use Rattle.book.specs.declared.Row.{Row}
 use Rattle.book.specs.declared.Verdict.{Verdict}
-use Rattle.book.specs.declared.Verdict.the-variants.{Good, TooShort, OutOfRange, ReservedByte, WrongLayout, BadMask, BadRowValue, BadRowEnd, BadRowBound}
+use Rattle.book.specs.declared.Verdict.the-variants.{Good, TooShort, OutOfRange, UnknownIdle, WrongLayout, BadMask, BadRowValue, BadRowEnd, BadRowBound}
 use Rattle.book.specs.Refusal.{_orElse_, rowFault, numberOf}
 use Rattle.book.proofs.RefusalLaws.{orElse-none, orElse-some, none-of-orElse}
 use Rattle.book.specs.Lists.{All}
@@ -165,7 +165,7 @@ pub numberOf-le : (v : Verdict) → numberOf v ≤ 8
 numberOf-le Good = omega arith
 numberOf-le TooShort = omega arith
 numberOf-le OutOfRange = omega arith
-numberOf-le ReservedByte = omega arith
+numberOf-le UnknownIdle = omega arith
 numberOf-le WrongLayout = omega arith
 numberOf-le BadMask = omega arith
 numberOf-le BadRowValue = omega arith

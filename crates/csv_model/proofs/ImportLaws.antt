@@ -5,7 +5,7 @@ use mathlib.Core.Path.{_≡_, refl, sym, ap, _∙_}
 use mathlib.Core.Logic.{_⊎_, ⊎-elim}
 use mathlib.Core.Bool.{Bool, true, false, not, _&&_, _||_}
 use mathlib.Core.List.{List, [], _∷_}
-use Prim.Native.Nat.{ℕ, zero, suc, _+_, _*_, _-_, _^_, _≤_, _<_}
+use Prim.Native.Nat.{ℕ, zero, suc, _+_, _*_, _-_, _^_, _≤_, _<_, zero-le}
 use native.Mathlib.Nat.{le-trans, lt-of-lt-of-le}
 use native.Mathlib.Omega.{arith}
 use lib.Dec.{eqb, ltb, leb, lit<}
@@ -152,7 +152,7 @@ module _ (limits : Limits) (n k : ℕ) (rs : List Row) (small : LimitsFit limits
         values-least = ok .values-least;
         values-most = ok .values-most;
         rows-most = rw rowCount-is (ok .rows-most);
-        reserved-zero = refl;
+        idle-known = zero-le;
         masks-offset = refl;
         rows-offset = omega (arith, rowsOffset-of n k 0 (fullMasks n k) rs fits);
         given-length = omega (arith, bookLength-of n k 0 (fullMasks n k) rs fits);

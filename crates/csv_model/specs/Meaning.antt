@@ -22,7 +22,7 @@ use lib.Dec.{eqb}
 use lib.ListN.{length, getD, drop}
 use Rattle.book.specs.declared.Limits.{Limits}
 use Rattle.book.specs.declared.Row.{Row}
-use Rattle.book.specs.Layout.{slots, values, reserved, masks, rows, bookLength}
+use Rattle.book.specs.Layout.{slots, values, idle, masks, rows, bookLength}
 use Rattle.book.specs.Lists.{All}
 use Rattle.book.specs.Refusal.{beyond, GoodBook}
 use Rattle.closing_model.specs.Start.{startLowers, startUppers}
@@ -123,7 +123,7 @@ pub record Imported (limits : Limits) (rs : List (List (List ℕ))) (b : List �
   pub good : GoodBook limits b
   pub slots-are : slots b ≡ slotsIn rs
   pub types-are : values b ≡ typesIn rs
-  pub byte-3 : reserved b ≡ 0
+  pub byte-3 : idle b ≡ 0
   pub masks-are : masks b ≡ fullMasks (slotsIn rs) (typesIn rs)
   pub rows-are : rows b ≡ rowsIn rs
   pub length-is : bookLength b ≡ length b

@@ -5,6 +5,7 @@ use mathlib.Core.Bool.{Bool, true, false}
 use mathlib.Core.List.{List}
 use mathlib.Core.Option.{none, some}
 use Prim.Native.Nat.{ℕ, _-_, _<_}
+use native.Mathlib.Nat.{le-trans}
 use native.Mathlib.Omega.{arith}
 use lib.ListN.{length}
 use Rattle.closing_model.specs.Table.{Table}
@@ -46,21 +47,25 @@ module _ {T : Table} {R : Rules} {S : State} {masks cells trail heights : List �
       → Filtered n k Q Q masks cells trail (session .top) masks′ cells′ trail′ (Outcomes.Live h)
       → R .settle (cut d (S .masks)) ≡ some masks′ → x ≡ R .ones (S .masks) - R .ones masks′
       → Answered T R (act R S (Calls.decide d)) (stand (standingOf (session .standing)) i (Calls.decide d) (act R S (Calls.decide d) .1))
-      masks′ cells′ trail′ heights n k (record { session = record { standing = Live; top = h; marks = session .marks }; first = 0; second = x })
+      masks′ cells′ trail′ heights n k
+      (record { session = record { standing = Live; top = h; marks = session .marks; idle = session .idle }; first = 0; second = x })
   unfolding stand
   live-answered {masks′ = masks′} x done settles struck =
       let working = live-working represents live in
+      let room = room-moved (represents .room) working (done .moved) in
+      let moved-to = working-live (represents .room) working done in
       rw (act-live R S d masks′ settles, live)
       (record {
         represents =
             record {
-              room = room-moved (represents .room) working (done .moved);
+              room = room;
               suits = represents .suits;
               masks-are = refl;
               flag = refl;
               marks-are = represents .marks-are;
               marks-in = represents .marks-in;
-              stands = working-live (represents .room) working done;
+              top-fits = omega (arith, moved-to .base .room, room .heights-fit);
+              stands = moved-to;
             };
         first = refl;
         second = struck;
@@ -72,7 +77,7 @@ module _ {T : Table} {R : Rules} {S : State} {masks cells trail heights : List �
       → Undone masks′ cells′ trail′ n k (session .top) h masks″ cells″ → R .settle (cut d (S .masks)) ≡ none
       → Answered T R (act R S (Calls.decide d)) (stand (standingOf (session .standing)) i (Calls.decide d) (act R S (Calls.decide d) .1))
       masks″ cells″ trail′ heights n k
-      (record { session = record { standing = Dead i; top = session .top; marks = session .marks }; first = 1; second = 0 })
+      (record { session = record { standing = Dead i; top = session .top; marks = session .marks; idle = session .idle }; first = 1; second = 0 })
   unfolding stand
   dead-answered done undone fails =
       let working = live-working represents live in
@@ -86,6 +91,7 @@ module _ {T : Table} {R : Rules} {S : State} {masks cells trail heights : List �
               flag = refl;
               marks-are = represents .marks-are;
               marks-in = represents .marks-in;
+              top-fits = represents .top-fits;
               stands = working-dead (represents .room) working done undone;
             };
         first = refl;
@@ -114,18 +120,20 @@ module _ {masks cells trail heights : List ℕ} {n k : ℕ} {session : Session} 
       undoable-dead (represents .room) (live-working represents (deciding .live)) done
 
   pub deciding-strikes : {Q : List ℕ → Type 0} {masks′ cells′ trail′ : List ℕ} {h : ℕ}
-      → Filtered n k Q Q masks cells trail (session .top) masks′ cells′ trail′ (Outcomes.Live h) → Strikes n trail′ (session .top) h
+      → Filtered n k Q Q masks cells trail (session .top) masks′ cells′ trail′ (Outcomes.Live h)
+      → Strikes n (session .idle) trail′ (session .top) h
   deciding-strikes done =
-      let room = deciding .running .represents .room in
-      moved-strikes (deciding-ready .world) (room .heights-fit) (done .moved)
+      let represents = deciding .running .represents in
+      let room = represents .room in
+      moved-strikes (session .idle) (deciding-ready .world) (room .heights-fit) (le-trans (represents .suits .idle-known) (room .values-fit)) (done .moved)
 
   -- ---- the answers
   module _ (i : ℕ) (assign : Bool) {masks′ cells′ trail′ : List ℕ} {h : ℕ} where
     pub decide-live : {count : ℕ}
         → Filtered n k (CutOf assign slot v) (CutOf assign slot v) masks cells trail (session .top) masks′ cells′ trail′ (Outcomes.Live h)
-        → OnesLost n trail′ (session .top) h count
+        → OnesLost n (session .idle) trail′ (session .top) h count
         → Acts n k i (Calls.decide (decisionOf assign slot v)) session masks cells trail heights masks′ cells′ trail′ heights
-        (record { session = record { standing = Live; top = h; marks = session .marks }; first = 0; second = count })
+        (record { session = record { standing = Live; top = h; marks = session .marks; idle = session .idle }; first = 0; second = count })
     decide-live {count} done lost =
         record {
           does = λ T R S represents.
@@ -144,7 +152,7 @@ module _ {masks cells trail heights : List ℕ} {n k : ℕ} {session : Session} 
         → Filtered n k (CutOf assign slot v) (CutOf assign slot v) masks cells trail (session .top) masks′ cells′ trail′ (Outcomes.Dead h)
         → Undone masks′ cells′ trail′ n k (session .top) h masks″ cells″
         → Acts n k i (Calls.decide (decisionOf assign slot v)) session masks cells trail heights masks″ cells″ trail′ heights
-        (record { session = record { standing = Dead i; top = session .top; marks = session .marks }; first = 1; second = 0 })
+        (record { session = record { standing = Dead i; top = session .top; marks = session .marks; idle = session .idle }; first = 1; second = 0 })
     decide-dead done undone =
         record {
           does = λ T R S represents.

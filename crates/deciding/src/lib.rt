@@ -32,14 +32,16 @@ pub fn decide(
 {
     let top = session.top;
     let marks = session.marks;
+    let idle = session.idle;
     let outcome = cut_slot(masks, cells, trail, n, k, top, slot, v, assign);
     match outcome {
         Outcome::Live(h) => {
-            let count = struck(trail, n, top, h);
+            let count = struck(trail, n, top, h, idle);
             let live = Session {
                 standing: Standing::Live,
                 top: h,
                 marks,
+                idle,
             };
             return Stepped {
                 session: live,
@@ -53,6 +55,7 @@ pub fn decide(
                 standing: Standing::Dead(i),
                 top,
                 marks,
+                idle,
             };
             return Stepped {
                 session: dead,

@@ -99,7 +99,7 @@ total-most k [] below = omega arith
 total-most k (m ∷ M) below =
     omega (arith, mul-suc k (length M), ones-le k m (below 0 (omega arith)), total-most k M (λ s inside. below (suc s) (omega arith)))
 
-tail-subset : {x m : ℕ} {xs ms : List ℕ} → Subset (x ∷ xs) (m ∷ ms) → Subset xs ms
+pub tail-subset : {x m : ℕ} {xs ms : List ℕ} → Subset (x ∷ xs) (m ∷ ms) → Subset xs ms
 tail-subset N⊆M = record { len = suc-inj (N⊆M .len); bits = λ s v. N⊆M .bits (suc s) v }
 
 pub total-mono : (N M : List ℕ) → Subset N M → total N ≤ total M

@@ -1,4 +1,5 @@
 pub mod CheckLaws
+pub mod IdleTheorems
 pub mod ImportTheorems
 pub mod Theorems
 pub mod WidthLaws

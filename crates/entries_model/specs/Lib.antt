@@ -1,4 +1,5 @@
 pub mod Entries
+pub mod IdleMeaning
 pub mod ImportMeaning
 pub mod Meaning
 pub mod Version

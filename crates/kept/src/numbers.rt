@@ -1,9 +1,9 @@
-// A session in the seven numbers of its memory: slots, types, calls made, standing, its call, open marks, the trail's height. The contracts cite
-// kept_model's `specs/Memory.antt`.
+// A session in the seven numbers of its memory: slots, types, calls made, standing, its call, open marks, and the trail's height with 65536 times the idle
+// byte. The contracts cite kept_model's `specs/Memory.antt`.
 use acts::Session;
 use acts::Standing;
 ghost use mathlib.Core.Path.{_≡_};
-ghost use Prim.Native.Nat.{_<_};
+ghost use Prim.Native.Nat.{_+_, _*_, _/_, _%_, _<_};
 ghost use lib.ListN.{length, getD};
 ghost use Rattle.kept_model.specs.Memory.{standingNumber, deadCall, standingByNumber, numbersOf, sessionIn};
 
@@ -22,7 +22,7 @@ const DEAD_CALL: usize = 4;
 
 const MARKS: usize = 5;
 
-const TOP: usize = 6;
+const TOP_AND_IDLE: usize = 6;
 
 pub fn number_at(numbers: &[usize], i: usize) -> usize
     requires { ⌜ i < length (now numbers) ⌝ }
@@ -39,12 +39,14 @@ pub fn session_in(numbers: &[usize]) -> Session
     let number = number_at(numbers, STANDING);
     let call = number_at(numbers, DEAD_CALL);
     let standing = standing_by_number(number, call);
-    let top = number_at(numbers, TOP);
+    let both = number_at(numbers, TOP_AND_IDLE);
     let marks = number_at(numbers, MARKS);
+    let idle = idle_in(both);
     Session {
         standing,
-        top,
+        top: both % 65536,
         marks,
+        idle,
     }
 }
 
@@ -63,17 +65,34 @@ fn standing_by_number(number: usize, call: usize) -> Standing
 
 // Writes a session of so many slots and types after so many calls.
 pub fn write_numbers(numbers: &mut [usize], n: usize, k: usize, made: usize, session: Session)
-    requires { ⌜ length (now numbers) ≡ 7 ⌝ }
+    requires { ⌜ (length (now numbers) ≡ 7) × (session .top < 65536) ⌝ }
     ensures { λ _. ⌜ now (numbers .exit) ≡ numbersOf n k made session ⌝ }
 {
     let standing = session.standing;
-    numbers[TOP] = session.top;
+    let top = session.top;
+    let idle = session.idle;
+    numbers[TOP_AND_IDLE] = top_and_idle(top, idle);
     numbers[SLOTS] = n;
     numbers[TYPES] = k;
     numbers[MADE] = made;
     numbers[STANDING] = standing_number(standing);
     numbers[DEAD_CALL] = dead_call(standing);
     numbers[MARKS] = session.marks;
+}
+
+// The trail's height, with 65536 times the idle byte.
+fn top_and_idle(top: usize, idle: u32) -> usize
+    requires { ⌜ top < 65536 ⌝ }
+    ensures { λ r. ⌜ r ≡ idle * 65536 + top ⌝ }
+{
+    idle as usize * 65536 + top
+}
+
+// The idle byte in such a number.
+fn idle_in(number: usize) -> u32
+    ensures { λ r. ⌜ r ≡ number / 65536 % 256 ⌝ }
+{
+    (number / 65536 % 256) as u32
 }
 
 fn standing_number(standing: Standing) -> usize

@@ -3,7 +3,8 @@
 -- No contract cites this file. Assumes nothing.
 use mathlib.Core.Path.{_≡_, refl, sym, ap, _∙_, subst}
 use mathlib.Core.List.{List, [], _++_}
-use Prim.Native.Nat.{ℕ, _+_, _≤_}
+use mathlib.Core.Option.{Option, none, some}
+use Prim.Native.Nat.{ℕ, _+_, _≤_, _<_}
 use native.Mathlib.Nat.{zero-add}
 use native.Mathlib.Omega.{arith}
 use lib.ListN.{length, getD, take, drop, length-append, length-drop, take-append-drop}
@@ -14,17 +15,18 @@ use Rattle.closing.specs.Close.{overlay}
 use Rattle.settling_model.specs.Book.{settledBook}
 use Rattle.session_model.specs.BookRun.{rulesOf, stateAfter, repliesOf, standingAfter}
 use Rattle.session_model.specs.Calls.{Call}
-use Rattle.session_model.specs.Machine.{step, runs, run}
+use Rattle.session_model.specs.Machine.{step, runs, opened, run}
 use Rattle.session_model.specs.Demand.{through, answerTo}
 use Rattle.session_model.specs.Standing as Model
 use Rattle.session_model.specs.Standing.{standFrom}
-use Rattle.session_model.specs.State.{State, Reply}
+use Rattle.session_model.specs.State.{Rules, State, Reply}
+use Rattle.session_model.proofs.NewsLaws.{newsTotal-tells}
 use Rattle.session_model.proofs.RunLaws.{run-append, runs-reply, length-replies, length-run}
 use Rattle.session_model.proofs.StandingLaws.{standFrom-append}
 use Rattle.session_fault.specs.Entry.{mostMarks}
 use Rattle.entries_model.specs.Entries.{fullLimits}
 use Rattle.acts.specs.Given.{standingOf}
-use Rattle.acts.specs.Represents.{Represents, Running}
+use Rattle.acts.specs.Represents.{Suits, Represents, Running}
 use Rattle.acts.specs.declared.Session.{Session}
 use Rattle.acts.specs.declared.Standing.{Standing}
 use Rattle.acts.specs.declared.Standing.the-variants.{OpenedDead, Live, Dead}
@@ -84,13 +86,30 @@ standing-declared Model.OpenedDead = refl
 standing-declared Model.Live = refl
 standing-declared (Model.Dead call) = refl
 
--- a session that stands as the machine and has its open marks is the machine's
+-- the machine counts its ones without the book's idle value, however it opened
+opened-ones : (R : Rules) (settled : Option (List ℕ)) (M : List ℕ) → opened R settled .0 .ones M ≡ R .ones M
+unfolding opened
+opened-ones R none M = refl
+opened-ones R (some N) M = refl
+
+rules-idle : (b : List ℕ) {n k most idle : ℕ} → Suits (openedRules b mostMarks) n k most idle → idle ≡ Layout.idle b
+rules-idle b suits =
+    let R = rulesOf b mostMarks in
+    newsTotal-tells _ _ (λ M. sym (suits .ones M) ∙ opened-ones R (R .settle (Layout.masks b)) M)
+
+-- a session that stands as the machine and has its open marks and its idle value is the machine's
 session-is : (b : List ℕ) (past : List Call) (session : Session) → standingOf (session .standing) ≡ standingAfter b mostMarks past
-    → length (stateAfter b mostMarks past .saved) ≡ session .marks → session ≡ sessionAt b past (session .top)
-session-is b past session standing marks =
-    ap (λ (s : Standing). record { standing = s; top = session .top; marks = session .marks })
+    → length (stateAfter b mostMarks past .saved) ≡ session .marks → session .idle ≡ Layout.idle b → session ≡ sessionAt b past (session .top)
+session-is b past session standing marks idle =
+    ap (λ (s : Standing). record { standing = s; top = session .top; marks = session .marks; idle = session .idle })
     (sym (declared-standing (session .standing)) ∙ ap declaredOf standing)
-    ∙ ap (λ (m : ℕ). record { standing = declaredOf (standingAfter b mostMarks past); top = session .top; marks = m }) (sym marks)
+    ∙ ap (λ (m : ℕ). record { standing = declaredOf (standingAfter b mostMarks past); top = session .top; marks = m; idle = session .idle }) (sym marks)
+    ∙ ap (λ (x : ℕ). record {
+      standing = declaredOf (standingAfter b mostMarks past);
+      top = session .top;
+      marks = length (stateAfter b mostMarks past .saved);
+      idle = x;
+    }) idle
 
 -- ---- KeptAt
 length-overlay : (front lent : List ℕ) → length front ≤ length lent → length (overlay front lent) ≡ length lent
@@ -106,7 +125,7 @@ kept-by b past front lent cells trail heights numbers session good masks-long ce
     let n = Layout.slots b in
     let k = Layout.values b in
     let long = represents .room .masks-in in
-    let same = session-is b past session standing (represents .marks-are) in
+    let same = session-is b past session standing (represents .marks-are) (rules-idle b (represents .suits)) in
     let front-is : front ≡ take n (overlay front lent) = sym (ap (λ (m : ℕ). take m (overlay front lent)) (sym long) ∙ take-append-seam front _) in
     record {
       good = good;
@@ -154,7 +173,10 @@ module _ {b : List ℕ} {past : List Call} {masks cells trail heights numbers : 
   kept-types-most k-is = omega (arith, k-is, kept-types, kept .represents .room .values-fit)
 
   kept-session : sessionIn numbers ≡ sessionAt b past (kept .top)
-  kept-session = ap sessionIn (kept .numbers) ∙ sessionIn-numbers (Layout.slots b) (Layout.values b) (length past) (sessionAt b past (kept .top))
+  kept-session =
+      let byte : Layout.idle b < 256 = omega (arith, kept .represents .suits .idle-known, kept .represents .room .values-fit) in
+      ap sessionIn (kept .numbers)
+      ∙ sessionIn-numbers (Layout.slots b) (Layout.values b) (length past) (sessionAt b past (kept .top)) (kept .represents .top-fits) byte
 
   module _ {n k : ℕ} {session : Session} (n-is : n ≡ getD numbers 0 0) (k-is : k ≡ getD numbers 1 0) (session-in : session ≡ sessionIn numbers) where
     pub kept-represents : Represents (bookTable b) (openedRules b mostMarks) (stateAfter b mostMarks past) (take n masks) cells trail heights n k session

@@ -1,12 +1,13 @@
 -- The laws of `specs/Memory.antt`, in its order: the sizes (`sizes-masks` .. `sizes-numbers`, `sized-is`), a standing in numbers and back
--- (`standingByNumber-number`), a
--- session in numbers and back (`sessionIn-numbers`). No contract cites this file. Assumes nothing.
-use mathlib.Core.Path.{_≡_, refl, sym, ap}
+-- (`standingByNumber-number`), a session in numbers and back (`sessionIn-numbers`). No contract cites this file. Assumes nothing.
+use mathlib.Core.Path.{_≡_, refl, sym, ap, _∙_}
 use mathlib.Core.Bool.{Bool, true, false, true≢false, _&&_}
 use mathlib.Core.List.{List, [], _∷_}
-use Prim.Native.Nat.{ℕ}
+use Prim.Native.Nat.{ℕ, _+_, _*_, _/_, _%_, _<_}
+use native.Mathlib.Nat.{mod-eq-of-lt}
 use native.Mathlib.Omega.{arith}
 use borrow.Author.Tests.{eqb-true, ne-eqb}
+use lib.Arith.{digits-div, digits-mod}
 use lib.Dec.{eqb}
 use lib.ListN.{length, set}
 use Rattle.acts.specs.declared.Session.{Session}
@@ -82,9 +83,15 @@ standingByNumber-number Live = refl
 standingByNumber-number (Dead call) = refl
 standingByNumber-number OpenedDead = refl
 
-pub sessionIn-numbers : (n k made : ℕ) (session : Session) → sessionIn (numbersOf n k made session) ≡ session
-sessionIn-numbers n k made session =
-    ap (λ (standing : Standing). record { standing = standing; top = session .top; marks = session .marks }) (standingByNumber-number (session .standing))
+pub sessionIn-numbers : (n k made : ℕ) (session : Session) → session .top < 65536 → session .idle < 256 → sessionIn (numbersOf n k made session) ≡ session
+sessionIn-numbers n k made session fits byte =
+    let number = session .idle * 65536 + session .top in
+    ap (λ (standing : Standing). record { standing = standing; top = number % 65536; marks = session .marks; idle = number / 65536 % 256 })
+    (standingByNumber-number (session .standing))
+    ∙ ap (λ (x : ℕ). record { standing = session .standing; top = x; marks = session .marks; idle = number / 65536 % 256 })
+    (digits-mod (session .idle) fits)
+    ∙ ap (λ (x : ℕ). record { standing = session .standing; top = session .top; marks = session .marks; idle = x })
+    (ap (λ (x : ℕ). x % 256) (digits-div (session .idle) fits) ∙ mod-eq-of-lt byte)
 
 -- seven stores write the numbers
 pub numbers-stored : (ns : List ℕ) (n k made number call marks top : ℕ) → length ns ≡ 7

@@ -9,7 +9,7 @@ use mathlib.Core.Path.{_≡_}
 use mathlib.Core.List.{List}
 use Prim.Native.Nat.{ℕ}
 use lib.ListN.{length, take}
-use Rattle.book.specs.Layout.{slots, values}
+use Rattle.book.specs.Layout.{slots, values, idle}
 use Rattle.book.specs.Refusal.{refusal}
 use Rattle.session_model.specs.BookRun.{stateAfter, standingAfter}
 use Rattle.session_model.specs.Calls.{Call}
@@ -30,7 +30,7 @@ declaredOf (Model.Dead call) = Dead call
 
 abbrev pub sessionAt : List ℕ → List Call → ℕ → Session
 sessionAt b past top =
-    record { standing = declaredOf (standingAfter b mostMarks past); top = top; marks = length (stateAfter b mostMarks past .saved) }
+    record { standing = declaredOf (standingAfter b mostMarks past); top = top; marks = length (stateAfter b mostMarks past .saved); idle = idle b }
 
 pub record KeptAt (b : List ℕ) (past : List Call) (at : Memory) : Type 0 where
   pub good : refusal fullLimits b ≡ 0

@@ -3,13 +3,14 @@
 --   Sized at           each slice has its size; sized: the test, and sizes by the five lengths
 --   standingNumber, deadCall   a standing in numbers: 0 live, 1 dead since a call, 2 opened dead; the number of that call, else 0
 --   standingByNumber         the standing that two such numbers stand for
---   numbersOf n k made session   a session after so many calls in numbers: slots, types, calls made, standing, its call, open marks, the trail's height
+--   numbersOf n k made session   a session after so many calls in numbers: slots, types, calls made, standing, its call, open marks, and the trail's height
+--                      with 65536 times the idle byte
 --   sessionIn numbers  the session that they stand for
 -- Assumes nothing.
 use mathlib.Core.Path.{_≡_}
 use mathlib.Core.Bool.{Bool, cond, _&&_}
 use mathlib.Core.List.{List, [], _∷_}
-use Prim.Native.Nat.{ℕ}
+use Prim.Native.Nat.{ℕ, _+_, _*_, _/_, _%_}
 use lib.Dec.{eqb}
 use lib.ListN.{length, getD}
 use Rattle.acts.specs.declared.Session.{Session}
@@ -56,7 +57,13 @@ standingByNumber number call = cond (eqb number 0) Live (cond (eqb number 1) (De
 
 abbrev pub numbersOf : ℕ → ℕ → ℕ → Session → List ℕ
 numbersOf n k made session =
-    n ∷ k ∷ made ∷ standingNumber (session .standing) ∷ deadCall (session .standing) ∷ session .marks ∷ session .top ∷ []
+    n ∷ k ∷ made ∷ standingNumber (session .standing) ∷ deadCall (session .standing) ∷ session .marks ∷ (session .idle * 65536 + session .top) ∷ []
 
 abbrev pub sessionIn : List ℕ → Session
-sessionIn numbers = record { standing = standingByNumber (getD numbers 3 0) (getD numbers 4 0); top = getD numbers 6 0; marks = getD numbers 5 0 }
+sessionIn numbers =
+    record {
+      standing = standingByNumber (getD numbers 3 0) (getD numbers 4 0);
+      top = getD numbers 6 0 % 65536;
+      marks = getD numbers 5 0;
+      idle = getD numbers 6 0 / 65536 % 256;
+    }

@@ -15,7 +15,7 @@ ghost use Rattle.kept_model.specs.Memory.{memory};
 // The version of this part.
 const MAJOR: u32 = 1;
 
-const MINOR: u32 = 2;
+const MINOR: u32 = 3;
 
 const PATCH: u32 = 0;
 

@@ -1,5 +1,6 @@
 // The plain machine of sessions: masks M, a dead flag and a pile of saved masks, call by call, with the refusals 11 to 16. Each decision
 // settles the cut masks anew.
+use crate::lists::possible;
 use crate::lists::settle;
 use crate::walls::walls;
 use arrays::MARKS;
@@ -10,7 +11,6 @@ use arrays::alone;
 use arrays::less;
 use arrays::mask;
 use arrays::narrow;
-use arrays::ones;
 use arrays::plus;
 use arrays::save;
 use arrays::saved;
@@ -27,6 +27,8 @@ pub struct Call {
 pub struct Session {
     pub n: usize,
     pub k: usize,
+    // 0 where no type is idle, else that type plus 1
+    pub idle: usize,
     // the book opened live
     pub opened: bool,
     // the flag is up
@@ -134,7 +136,7 @@ fn decide(
     masks: &mut Masks,
 ) -> Told {
     let n = session.n;
-    let before = ones(n, masks);
+    let before = news(session, masks);
     let mut cut = [0u32; 32];
     copy(masks, &mut cut);
     set_mask(&mut cut, slot, mask(masks, slot) & kept);
@@ -148,7 +150,21 @@ fn decide(
         };
     }
     copy(&cut, masks);
-    unchanged(session, 0, narrow(less(before, ones(n, masks))))
+    unchanged(session, 0, narrow(less(before, news(session, masks))))
+}
+
+// The ones in the masks, type by type, without those of the idle type.
+fn news(session: Session, masks: &Masks) -> usize {
+    let n = session.n;
+    let idle = session.idle;
+    let mut sum = 0;
+    for v in 0..session.k {
+        if plus(v, 1) == idle {
+            continue;
+        }
+        sum = plus(sum, possible(v, n, masks));
+    }
+    sum
 }
 
 fn copy(from: &Masks, to: &mut Masks) {

@@ -118,6 +118,7 @@ pub fn run_calls(
     let mut session = Session {
         n: case.n,
         k: case.k,
+        idle: case.idle,
         opened: opened,
         dead: !opened,
         marks: 0,

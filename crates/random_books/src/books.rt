@@ -1,5 +1,6 @@
 // Random books, around a hidden plan. The arrays of eight say what a style of books is like.
 use crate::bytes::Bytes;
+use crate::bytes::put8;
 use crate::bytes::put16;
 use crate::bytes::put32;
 use crate::random::below;
@@ -18,11 +19,13 @@ use arrays::set_mask;
 use arrays::smaller;
 use arrays::wide;
 
-// A book's counts of slots, types and rows, and its number in the run.
+// A book's counts of slots, types and rows, its idle byte, and its number in the run.
 pub struct Case {
     pub number: usize,
     pub n: usize,
     pub k: usize,
+    // 0 where no type is idle, else that type plus 1
+    pub idle: usize,
     pub r: usize,
 }
 
@@ -54,10 +57,16 @@ pub fn make_book(seed: &mut u64, number: usize, masks: &mut Masks, rows: &mut Ro
         number: number,
         n: n,
         k: k,
+        idle: idle_byte(number, k),
         r: r,
     };
     make_rows(seed, case, &plan, rows);
     case
+}
+
+// By turns no idle type and each of the types.
+fn idle_byte(number: usize, k: usize) -> usize {
+    number % (k % 32 + 1)
 }
 
 // A type for each slot, in stretches of one type.
@@ -152,7 +161,8 @@ pub fn write_book(case: Case, masks: &Masks, rows: &Rows, bytes: &mut Bytes) -> 
     let rows_at = 12 + case.n % 32 * 4;
     let end = rows_at + case.r % 65 * 8;
     put16(bytes, 0, case.n);
-    put16(bytes, 2, case.k);
+    put8(bytes, 2, case.k);
+    put8(bytes, 3, case.idle);
     put16(bytes, 4, case.r);
     put16(bytes, 6, 12);
     put16(bytes, 8, rows_at);

@@ -3,6 +3,7 @@ use crate::runs::run;
 use acts::Session;
 use acts::Standing;
 use acts::is_shut;
+use book::idle;
 use book::slots;
 use book::values;
 use book_masks::clear_masks;
@@ -49,6 +50,7 @@ pub fn open_session(
     requires { ⌜ Openable (now book) (now masks) (now cells) (now trail) (now lowers) (now uppers) ⌝ }
     ensures { λ r. ⌜ Opens (now (book .entry)) (now (masks .exit)) (now (cells .exit)) (now (trail .exit)) r ⌝ }
 {
+    let idle = idle(book) as u32;
     let outcome = open_book(book, masks, cells, trail, lowers, uppers);
     match outcome {
         Outcome::Live(h) => {
@@ -56,6 +58,7 @@ pub fn open_session(
                 standing: Standing::Live,
                 top: h,
                 marks: 0,
+                idle,
             };
         }
         Outcome::Dead(_) => {
@@ -64,6 +67,7 @@ pub fn open_session(
                 standing: Standing::OpenedDead,
                 top: 0,
                 marks: 0,
+                idle,
             };
         }
     }

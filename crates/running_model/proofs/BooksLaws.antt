@@ -8,6 +8,7 @@ use mathlib.Core.List.{List, [], _∷_}
 use mathlib.Core.Option.{Option, none, some}
 use Prim.Native.Nat.{ℕ, suc, _*_, _≤_, _<_}
 use native.Mathlib.Omega.{arith}
+use lib.Dec.{lit<}
 use lib.ListN.{length, getD, drop, replicate, List·getD-append}
 use Rattle.book.specs.Layout as Layout
 use Rattle.closing_model.specs.Table.{Table, view}
@@ -110,42 +111,44 @@ module _ {b m c t L U m′ c′ t′ : List ℕ} (openable : Openable b m c t L 
 
   live-represents : {L′ U′ : List ℕ} {h : ℕ} → BookState b m′ c′ t′ L′ U′ h → (heights : List ℕ)
       → Represents (bookTable b) (openedRules b (length heights)) (openedState b (length heights)) m′ c′ t′ heights (Layout.slots b) (Layout.values b)
-      (record { standing = Live; top = h; marks = 0 })
+      (record { standing = Live; top = h; marks = 0; idle = Layout.idle b })
   live-represents state heights =
       at-opening heights (sym (opened-live (rulesOf b (length heights)) (Layout.masks b) m′ (rulesOf-settle b (length heights) ∙ state .settled)))
       (record {
         room = opens-room;
-        suits = record { slots = refl; values = refl; limit = refl; ones = λ M. refl };
+        suits = record { slots = refl; values = refl; limit = refl; ones = λ M. refl; idle-known = openable .state .rises .book .idle-known };
         masks-are = refl;
         flag = refl;
         marks-are = refl;
         marks-in = omega arith;
+        top-fits = omega (arith, state-working heights (length heights) state .base .room, opens-room .heights-fit);
         stands = state-working heights (length heights) state;
       })
 
   pub opens-live : (L′ U′ : List ℕ) {h : ℕ} (r : Outcome) → r ≡ Outcomes.Live h → OpensBook b m′ c′ t′ L′ U′ r
-      → Opens b m′ c′ t′ (record { standing = Live; top = h; marks = 0 })
+      → Opens b m′ c′ t′ (record { standing = Live; top = h; marks = 0; idle = Layout.idle b })
   opens-live L′ U′ {h} r is opens =
       let state : BookState b m′ c′ t′ L′ U′ h = subst (λ (o : Outcome). OpensBook b m′ c′ t′ L′ U′ o) is opens in
       record { represents = live-represents state; standing = rw (state .settled) refl }
 
   dead-represents : settledBook b ≡ none → m′ ≡ replicate (length m) 0 → (heights : List ℕ)
       → Represents (bookTable b) (openedRules b (length heights)) (openedState b (length heights)) m′ c′ t′ heights (Layout.slots b) (Layout.values b)
-      (record { standing = OpenedDead; top = 0; marks = 0 })
+      (record { standing = OpenedDead; top = 0; marks = 0; idle = Layout.idle b })
   dead-represents dies cleared heights =
       at-opening heights (sym (opened-dead (rulesOf b (length heights)) (Layout.masks b) (rulesOf-settle b (length heights) ∙ dies)))
       (record {
         room = opens-room;
-        suits = record { slots = refl; values = refl; limit = refl; ones = λ M. refl };
+        suits = record { slots = refl; values = refl; limit = refl; ones = λ M. refl; idle-known = openable .state .rises .book .idle-known };
         masks-are = sym (cleared ∙ ap (λ (n : ℕ). replicate n 0) (openable .state .masks-in));
         flag = refl;
         marks-are = refl;
         marks-in = omega arith;
+        top-fits = lit< tt;
         stands = record { saved-none = refl; standing = λ kind M v. refl };
       })
 
   pub opens-dead : (m₁ L′ U′ : List ℕ) {h : ℕ} (r : Outcome) → r ≡ Outcomes.Dead h → OpensBook b m₁ c′ t′ L′ U′ r → m′ ≡ replicate (length m) 0
-      → Opens b m′ c′ t′ (record { standing = OpenedDead; top = 0; marks = 0 })
+      → Opens b m′ c′ t′ (record { standing = OpenedDead; top = 0; marks = 0; idle = Layout.idle b })
   opens-dead m₁ L′ U′ {h} r is opens cleared =
       let dies : settledBook b ≡ none = subst (λ (o : Outcome). OpensBook b m₁ c′ t′ L′ U′ o) is opens in
       record { represents = dead-represents dies cleared; standing = rw dies refl }

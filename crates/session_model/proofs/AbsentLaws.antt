@@ -12,7 +12,6 @@ use lib.ListN.{length, getD}
 use borrow.Author.Tests.{leb-false}
 use Rattle.domains.specs.Mask.{testBit}
 use Rattle.domains.proofs.MaskLaws.{testBit-lt, testBit-empty, testBit-ext}
-use Rattle.domains.proofs.MasksLaws.{total-mono}
 use Rattle.book.specs.Layout.{slots, masks}
 use Rattle.book.proofs.LayoutLaws.{length-masks}
 use Rattle.closing_model.specs.Table.{view}
@@ -88,5 +87,5 @@ module _ (b : List ℕ) (limit : ℕ) (M : List ℕ) (settles : settledBook b �
         let answered = live-answered b limit M settles L U closes before (remove s v) not-refused in
         let lives = answered .lives (λ dies. answered .dies .0 dies (stateAfter b limit before .masks) (best .stable) allowed) in
         let after = live-largest (remove s v) (lives .0) (lives .1) in
-        let kept = total-mono _ _ (after .largest (stateAfter b limit before .masks) (best .stable) allowed) in
+        let kept = closed-adequate b limit M settles L U closes .fewer _ _ (after .largest (stateAfter b limit before .masks) (best .stable) allowed) in
         lives .1 ∙ ap live (omega (arith, kept, answered .struck (lives .0) (lives .1)))

@@ -7,12 +7,12 @@ use mathlib.Core.List.{List, _∷_}
 use mathlib.Core.Option.{some}
 use Prim.Native.Nat.{ℕ, _+_}
 use native.Mathlib.Omega.{arith}
-use Rattle.domains.specs.Masks.{total}
-use Rattle.book.specs.Layout.{masks}
+use Rattle.book.specs.Layout.{idle, masks}
 use Rattle.closing_model.specs.Table.{view}
 use Rattle.settling_model.specs.Stable.{Largest}
 use Rattle.settling_model.specs.Book.{closedBook, settledBook}
 use Rattle.settling_model.proofs.BookLaws.{closedBook-loosest}
+use Rattle.session_model.specs.News.{newsTotal}
 use Rattle.session_model.specs.Decisions.{assign, remove, cutAll, LargestUnder, UnstableUnder}
 use Rattle.session_model.specs.Calls.{Call, decide, mark, back, show, walls}
 use Rattle.session_model.specs.State.{State, Reply, live, dead, value, refused, words}
@@ -34,10 +34,10 @@ module _ (b : List ℕ) (limit : ℕ) (M : List ℕ) (settles : settledBook b �
     abbrev next : Call → State × Reply
     next c = step (rulesOf b limit) (stateAfter b limit before) c
 
-    live-struck : (c : Call) (x : ℕ) → next c .1 ≡ live x → x + total (next c .0 .masks) ≡ total (stateAfter b limit before .masks)
+    live-struck : (c : Call) (x : ℕ) → next c .1 ≡ live x → x + newsTotal (idle b) (next c .0 .masks) ≡ newsTotal (idle b) (stateAfter b limit before .masks)
     live-struck c x is =
         live-or-dead-decides (rulesOf b limit) (stateAfter b limit before)
-        (λ a. next a .1 ≡ live x → x + total (next a .0 .masks) ≡ total (stateAfter b limit before .masks))
+        (λ a. next a .1 ≡ live x → x + newsTotal (idle b) (next a .0 .masks) ≡ newsTotal (idle b) (stateAfter b limit before .masks))
         (λ d lives. live-answered b limit M settles L U closes before d (subst⁻¹ (λ (r : Reply). Refused r → ⊥) lives (λ no. no)) .struck x lives)
         c (omega (arith, ap (λ (r : Reply). words r .0) is)) is
 
@@ -66,7 +66,7 @@ module _ (b : List ℕ) (limit : ℕ) (M : List ℕ) (settles : settledBook b �
             let lives = answered .lives (λ dies. not-dead (is ∙ dies)) in
             (lives .0, is ∙ lives .1);
         struck = λ before rest c x at lives.
-            subst⁻¹ (λ (S : State). x + total (S .masks) ≡ total (stateAfter b limit before .masks)) (left before c)
+            subst⁻¹ (λ (S : State). x + newsTotal (idle b) (S .masks) ≡ newsTotal (idle b) (stateAfter b limit before .masks)) (left before c)
             (live-struck before c x (sym (told before rest c at) ∙ lives));
         absent-dies = λ before rest s v at not-refused lacks.
             let is = told before rest (decide (assign s v)) at in

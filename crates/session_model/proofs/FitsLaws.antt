@@ -8,6 +8,7 @@ use mathlib.Core.Bool.{Bool, true, false}
 use mathlib.Core.List.{List, [], _∷_}
 use mathlib.Core.Option.{Option, none, some, bind, Option·elim, Option·none-ne-some}
 use Prim.Native.Nat.{ℕ, zero, suc, _-_, _^_, _≤_, _<_, zero-le}
+use native.Mathlib.Nat.{lt-of-le-of-lt}
 use native.Mathlib.Numerals.{add-one}
 use native.Mathlib.Omega.{arith}
 use lib.Dec.{lit<}
@@ -36,6 +37,7 @@ use Rattle.session_model.specs.BookRun.{rulesOf, stateAfter, repliesOf}
 use Rattle.session_model.specs.Walls.{boundLine, wallCount}
 use Rattle.session_model.proofs.BookRunLaws.{rulesOf-settle, live-run, shut-run}
 use Rattle.session_model.proofs.CutLaws.{cut-subset}
+use Rattle.session_model.proofs.NewsLaws.{newsTotal-le}
 
 pub record Fitting (R : Rules) (book : List ℕ) (w : ℕ) : Type 0 where
   -- every first word is below
@@ -185,7 +187,9 @@ book-fitting b limit most below =
       numbers = lit< tt;
       settles = λ M N. settled (closedBook b) M N;
       standing = λ kind M v. walls-most (closedBook b) kind M v;
-      ones = λ M within. omega (arith, total-mono M (masks b) within, total-most 32 (masks b) (λ s inside. below s), length-masks b);
+      ones = λ M within.
+          lt-of-le-of-lt (newsTotal-le _ M)
+          (omega (arith, total-mono M (masks b) within, total-most 32 (masks b) (λ s inside. below s), length-masks b));
       masks = λ M within s. mask-subset-below 32 (record { bits = within .bits s }) (below s);
     }
   where

@@ -7,9 +7,11 @@ pub mod DeadOpeningLaws
 pub mod DecisionsLaws
 pub mod DemandLaws
 pub mod FitsLaws
+pub mod IdleLaws
 pub mod InForceLaws
 pub mod KeptLaws
 pub mod LiveLaws
+pub mod NewsLaws
 pub mod OrderLaws
 pub mod OutputLaws
 pub mod PlanLaws

@@ -6,7 +6,6 @@ use mathlib.Core.List.{List, [], _∷_, _++_}
 use mathlib.Core.Option.{none, some}
 use Prim.Native.Nat.{ℕ}
 use lib.ListN.{length, getD}
-use Rattle.domains.proofs.MasksLaws.{total-mono}
 use Rattle.book.specs.Layout.{masks}
 use Rattle.closing_model.specs.Table.{view}
 use Rattle.settling_model.specs.Book.{closedBook, settledBook}
@@ -20,6 +19,7 @@ use Rattle.session_model.specs.InForce.{followAll, unmarked}
 use Rattle.session_model.specs.BookRun.{rulesOf, stateAfter, repliesOf}
 use Rattle.session_model.specs.Demand.{Refused, At, through, answerTo, boundsOf}
 use Rattle.session_model.proofs.DecisionsLaws.{largest-under}
+use Rattle.session_model.proofs.NewsLaws.{newsTotal-mono}
 use Rattle.session_model.proofs.StepLaws.{unrefused-none}
 use Rattle.session_model.proofs.RunLaws.{runs-reply}
 use Rattle.session_model.proofs.KeptLaws.{Adequate, Piled, Kept, runs-kept, Answered, step-answered}
@@ -51,7 +51,7 @@ module _ (b : List ℕ) (limit : ℕ) (M : List ℕ) (settles : settledBook b �
         record {
           settles = λ X N is. settling-largest (boundsOf b (view L U)) X N (sym (rulesOf-closed b limit L U closes X) ∙ is);
           fails = λ X is. settling-unstable (boundsOf b (view L U)) X (sym (rulesOf-closed b limit L U closes X) ∙ is);
-          fewer = total-mono;
+          fewer = newsTotal-mono _;
         }
 
     fresh-kept : Kept (boundsOf b (view L U)) (masks b) unmarked (fresh M)

@@ -7,7 +7,6 @@ use mathlib.Core.Option.{none, bind, Option·elim}
 use Prim.Native.Nat.{ℕ}
 use lib.Count.{ones}
 use Rattle.domains.specs.Mask.{testBit, clearBit}
-use Rattle.domains.specs.Masks.{total}
 use Rattle.domains.specs.Counts.{count, only}
 use Rattle.book.specs.Layout.{listOf}
 use Rattle.closing_model.specs.Table.{others}
@@ -18,6 +17,7 @@ use Rattle.settling_model.specs.Cuts.{fixTo, strikeUnfixed, mapBefore, cutIf, c
 use Rattle.settling_model.specs.Settling.{pass, passes, fixpoint, noneEmpty, noneBroken, settling}
 use Rattle.settling_model.specs.Book.{settledBook}
 use Rattle.segments_model.specs.Cells.{standsAt}
+use Rattle.session_model.specs.News.{news, newsTotal}
 use Rattle.session_model.specs.Decisions.{keepOnly, cut}
 use Rattle.session_model.specs.Calls.{Call, callOf, callsOf}
 use Rattle.session_model.specs.State.{wordsOf}
@@ -116,7 +116,7 @@ worked : (says m8 256 wallCalls ≡ (2 ∷ 1 ∷ 2 ∷ 0 ∷ 3 ∷ 0 ∷ 0 ∷ 2
     × (says m8 1 refusedCalls ≡ (refusedWords, 1 ∷ 3 ∷ 3 ∷ []))
     × (says tooMany 256 shutCalls ≡ (2 ∷ 0 ∷ 271 ∷ 0 ∷ 270 ∷ 0 ∷ 2 ∷ 0 ∷ 271 ∷ 0 ∷ 269 ∷ 0 ∷ [], 0 ∷ 0 ∷ []))
     × (says laterSpent 256 (6 ∷ 0 ∷ 0 ∷ 0 ∷ []) ≡ (2 ∷ 0 ∷ [], 2 ∷ 2 ∷ 1 ∷ 1 ∷ []))
-unfolding bind Option·elim ones total testBit clearBit count only listOf others lowOf highOf startLowers startUppers newLower newUpper stepLowers stepUppers crossed same closingWithin listSum closing lineBounds tableBounds fixTo strikeUnfixed mapBefore cutIf cutLow cutHigh pass passes fixpoint noneEmpty noneBroken settling standsAt keepOnly cut callOf wordsOf first refusal decided restored act stepBy step runs opened run
+unfolding bind Option·elim ones news newsTotal testBit clearBit count only listOf others lowOf highOf startLowers startUppers newLower newUpper stepLowers stepUppers crossed same closingWithin listSum closing lineBounds tableBounds fixTo strikeUnfixed mapBefore cutIf cutLow cutHigh pass passes fixpoint noneEmpty noneBroken settling standsAt keepOnly cut callOf wordsOf first refusal decided restored act stepBy step runs opened run
 worked = (refl, refl, refl, refl)
 
 -- ---- a dead opening

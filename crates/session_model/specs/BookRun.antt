@@ -1,6 +1,6 @@
 -- The plain machine of a good book, fed only the book's bytes b and the calls. The number of marks that may be open is a parameter.
 --   rulesOf b limit         what the machine has of the book: settling and wall counts by the closed table. Where the book does not close,
---                           no masks settle
+--                           no masks settle. Its ones leave the idle value out
 --   runBook b limit calls   the list run from the fresh opening: the last state, and the answers
 --   stateAfter, repliesOf, replyOf   its parts, and the answer to call i
 --   forceAfter, marksAfter  the decisions in force after the list, and those at each mark still open
@@ -9,8 +9,7 @@
 use mathlib.Core.List.{List}
 use mathlib.Core.Option.{bind, Option·elim}
 use Prim.Native.Nat.{ℕ}
-use Rattle.domains.specs.Masks.{total}
-use Rattle.book.specs.Layout.{slots, values, masks}
+use Rattle.book.specs.Layout.{slots, values, idle, masks}
 use Rattle.closing_model.specs.Table.{view}
 use Rattle.settling_model.specs.Stable.{tableBounds}
 use Rattle.settling_model.specs.Settling.{settling}
@@ -18,6 +17,7 @@ use Rattle.settling_model.specs.Book.{closedBook, settledBook}
 use Rattle.session_model.specs.Decisions.{Decision}
 use Rattle.session_model.specs.Calls.{Call}
 use Rattle.session_model.specs.Walls.{wallCount}
+use Rattle.session_model.specs.News.{newsTotal}
 use Rattle.session_model.specs.State.{Rules, State, Reply}
 use Rattle.session_model.specs.Machine.{run, after, replies, replyAt}
 use Rattle.session_model.specs.InForce.{inForce, atMarks}
@@ -31,7 +31,7 @@ rulesOf b limit =
       limit = limit;
       settle = λ M. bind (closedBook b) (λ T. settling (tableBounds (slots b) (values b) (view (T .0) (T .1))) M);
       standing = λ kind M v. Option·elim (closedBook b) 0 (λ T. wallCount kind (slots b) (view (T .0) (T .1)) M v);
-      ones = total;
+      ones = newsTotal (idle b);
     }
 
 abbrev pub runBook : List ℕ → ℕ → List Call → State × List Reply

@@ -14,8 +14,7 @@ use mathlib.Core.List.{List, [], _∷_, _++_}
 use mathlib.Core.Option.{some}
 use Prim.Native.Nat.{ℕ, _+_, _<_}
 use lib.ListN.{length, getD, replicate}
-use Rattle.domains.specs.Masks.{total}
-use Rattle.book.specs.Layout.{slots, values, masks}
+use Rattle.book.specs.Layout.{slots, values, idle, masks}
 use Rattle.closing_model.specs.Table.{Table, Loosest}
 use Rattle.settling_model.specs.Settled.{LacksAt}
 use Rattle.settling_model.specs.Plans.{singles}
@@ -25,6 +24,7 @@ use Rattle.settling_model.specs.Book.{bookStart}
 use Rattle.session_model.specs.Decisions.{Decision, assign, remove, Meets, LargestUnder, UnstableUnder}
 use Rattle.session_model.specs.Calls.{Call, decide, mark, back, show, walls, kindOf}
 use Rattle.session_model.specs.Walls.{wallCount}
+use Rattle.session_model.specs.News.{newsTotal}
 use Rattle.session_model.specs.State.{Reply, live, dead, value, done, refused}
 use Rattle.session_model.specs.Refusal.{Refusal, number, refusal}
 use Rattle.session_model.specs.Standing.{deadOf}
@@ -62,11 +62,11 @@ pub record Demand3 (b : List ℕ) (limit : ℕ) (calls : List Call) : Type 0 whe
   pub dies : (before rest : List Call) (d : Decision) → At calls before (decide d) rest → (Refused (answerTo b limit calls before) → ⊥)
       → (answerTo b limit calls before ≡ dead)
       ↔ UnstableUnder (boundsOf b table) (masks b) (d ∷ forceAfter b limit before)
-  -- .. and else live; each struck count is the ones in the masks before that call less those after
+  -- .. and else live; each struck count is the ones in the masks before that call less those after, the idle value left out
   pub lives : (before rest : List Call) (d : Decision) → At calls before (decide d) rest → (Refused (answerTo b limit calls before) → ⊥)
       → (answerTo b limit calls before ≡ dead → ⊥) → (x : ℕ) × (answerTo b limit calls before ≡ live x)
   pub struck : (before rest : List Call) (c : Call) (x : ℕ) → At calls before c rest → answerTo b limit calls before ≡ live x
-      → x + total (stateAfter b limit (through before c) .masks) ≡ total (stateAfter b limit before .masks)
+      → x + newsTotal (idle b) (stateAfter b limit (through before c) .masks) ≡ newsTotal (idle b) (stateAfter b limit before .masks)
   -- an assign of an absent value is dead, a remove of one is live with 0 struck
   pub absent-dies : (before rest : List Call) (s v : ℕ) → At calls before (decide (assign s v)) rest
       → (Refused (answerTo b limit calls before) → ⊥) → LacksAt (stateAfter b limit before .masks) s v → answerTo b limit calls before ≡ dead

@@ -2,8 +2,10 @@ pub mod BookRun
 pub mod Calls
 pub mod Decisions
 pub mod Demand
+pub mod Idle
 pub mod InForce
 pub mod Machine
+pub mod News
 pub mod Refusal
 pub mod Standing
 pub mod State

@@ -81,6 +81,7 @@ fit-of capacity good =
       inside = omega (arith, good .header .lent-length);
       slots-most = le-trans (good .header .slots-most) (capacity .slots);
       values-most = le-trans (good .header .values-most) (capacity .values);
+      idle-known = good .header .idle-known;
       mask = good .mask;
       row = good .row;
     }

@@ -14,7 +14,7 @@ use lib.ListN.{length}
 use Rattle.answer.specs.declared.Answer.{Answer}
 use Rattle.answer.specs.Answer.{wordOf}
 use Rattle.book.specs.declared.Limits.{Limits}
-use Rattle.book.specs.Layout.{slots, values, rowCount, maskAt, rowsPart, rowAt}
+use Rattle.book.specs.Layout.{slots, values, idle, rowCount, maskAt, rowsPart, rowAt}
 use Rattle.book.specs.GoodFacts.{MaskFacts, RowFacts}
 use Rattle.closing.specs.Close.{Outcome, answerOf}
 use Rattle.settle_fault.specs.Settle.{masksOf}
@@ -27,6 +27,7 @@ pub record FitBook (b : List ℕ) : Type 0 where
   pub inside : 12 + 4 * slots b + 8 * rowCount b ≤ length b
   pub slots-most : slots b ≤ 256
   pub values-most : values b ≤ 32
+  pub idle-known : idle b ≤ values b
   pub mask : (s : ℕ) → s < slots b → MaskFacts (values b) (maskAt b s)
   pub row : (i : ℕ) → i < rowCount b → RowFacts (slots b) (values b) (rowAt (rowsPart b) i)
 

@@ -1,4 +1,5 @@
 pub mod Bytes
 pub mod Claims
+pub mod IdleTable
 pub mod PlanTest
 pub mod WorkedTable

@@ -39,7 +39,8 @@ pub struct Engine {
     lower_corners: Vec<Corners>,
 }
 
-/// Makes the calls into words and masks, with the answers of `nested_gcc_session`.
+/// Makes the calls into words and masks, with the answers of `nested_gcc_session` on a book without an idle
+/// type.
 pub fn session_into(
     closing: Closing,
     book: &[u8],

@@ -1,6 +1,6 @@
 use crate::NO_UPPER;
 
-/// A book to be written: slots, types, a mask for each slot, and rows.
+/// A book to be written: slots, types, which of them is idle, a mask for each slot, and rows.
 ///
 /// It writes what it is given and judges nothing; [`check`](crate::check) does.
 ///
@@ -11,7 +11,7 @@ use crate::NO_UPPER;
 /// assert_eq!(
 ///     book.to_bytes(),
 ///     [
-///         2, 0, 2, 0, 1, 0, 12, 0, 20, 0, 28, 0, // n, k, 0, r, masks at, rows at, length
+///         2, 0, 2, 0, 1, 0, 12, 0, 20, 0, 28, 0, // n, k, no idle type, r, masks at, rows at, length
 ///         3, 0, 0, 0, 2, 0, 0, 0, // masks
 ///         0, 0, 2, 0, 0, 0, 1, 0, // type, 0, end, lower, upper
 ///     ]
@@ -21,6 +21,8 @@ use crate::NO_UPPER;
 pub struct Book {
     /// k.
     types: u8,
+    /// Byte 3: 0 for no idle type, else that type plus 1.
+    idle: u8,
     /// One for each slot; n is their count.
     masks: Vec<u32>,
     rows: Vec<Row>,
@@ -36,10 +38,41 @@ struct Row {
 }
 
 impl Book {
-    /// A book without rows, whose slots may have each of the types 0 to `types` - 1.
+    /// A book without rows, whose slots may have each of the types 0 to `types` - 1, none of them idle.
     pub fn new(slots: u16, types: u8) -> Book {
         let every_type = if types < 32 { (1 << types) - 1 } else { u32::MAX };
-        Book { types, masks: vec![every_type; slots.into()], rows: Vec::new() }
+        Book { types, idle: 0, masks: vec![every_type; slots.into()], rows: Vec::new() }
+    }
+
+    /// Sets the type that means: line stands. Struck figures leave it out, and nothing else changes.
+    ///
+    /// Byte 3 is then `board_type` + 1, or 255 where that does not fit it. A book that has no such type is
+    /// refused with [`Refusal::IdleType`](crate::Refusal::IdleType).
+    ///
+    /// ```
+    /// use nested_gcc::{check, session, Answer, Book, Calls, Refusal};
+    ///
+    /// // Three slots and two types; of type 0 at least one within the first two slots.
+    /// let book = Book::new(3, 2).row(0, 2, 1, None);
+    /// // Slot 0 loses type 0, so that slot 1 has to take it and loses type 1.
+    /// let mut calls = Calls::new();
+    /// calls.assign(0, 1);
+    /// let ran = session(&book.to_bytes(), calls.as_bytes())?;
+    /// assert_eq!(ran.answers, [Answer::Live { struck: 2 }]);
+    /// assert_eq!(ran.masks, [0b10, 0b01, 0b11]);
+    ///
+    /// // Where type 0 means that the line stands, only the loss of type 1 is news. The masks are the same.
+    /// let idle = session(&book.clone().idle(0).to_bytes(), calls.as_bytes())?;
+    /// assert_eq!(idle.answers, [Answer::Live { struck: 1 }]);
+    /// assert_eq!(idle.masks, ran.masks);
+    ///
+    /// // There is no type 2.
+    /// assert_eq!(check(&book.idle(2).to_bytes()), Err(Refusal::IdleType));
+    /// # Ok::<(), Refusal>(())
+    /// ```
+    pub fn idle(mut self, board_type: u8) -> Book {
+        self.idle = board_type.saturating_add(1);
+        self
     }
 
     /// Sets the slot's mask: bit v says that type v may go there.
@@ -68,7 +101,7 @@ impl Book {
         let length = rows_at + 8 * self.rows.len();
         let mut bytes = Vec::with_capacity(length);
         bytes.extend((self.masks.len() as u16).to_le_bytes());
-        bytes.extend([self.types, 0]);
+        bytes.extend([self.types, self.idle]);
         bytes.extend((self.rows.len() as u16).to_le_bytes());
         for place in [masks_at, rows_at, length] {
             bytes.extend((place as u16).to_le_bytes());

@@ -4,8 +4,8 @@ use crate::{refusal, sys, Refusal, BOOK_BYTES};
 ///
 /// The text is records, each ended by CRLF, which the last may lack; a record is fields, parted by commas; a field may
 /// stand in quotes as a whole. The first record is slots, types. Each later one is a row: type, end, lower, upper; an
-/// empty upper is no upper bound. Every other field is one to five digits. The book has the text's slots and types,
-/// each type in the mask of each slot, and the rows in the order of their records.
+/// empty upper is no upper bound. Every other field is one to five digits. The book has the text's slots and types, no
+/// idle type, each type in the mask of each slot, and the rows in the order of their records.
 ///
 /// Any bytes may be given. For each record in turn the refusals are [`Refusal::Quoting`], then [`Refusal::Field`]; when
 /// all records pass, [`Refusal::OutOfRange`] for slots, types or the number of rows; then for each row in turn

@@ -100,7 +100,7 @@ pub enum Verdict {
 /// ```
 /// use nested_gcc::{check, Refusal};
 ///
-/// // One slot, one type, no rows: n, k, 0, r, masks at 12, rows at 16, length 16; then one mask.
+/// // One slot, one type, no rows: n, k, no idle type, r, masks at 12, rows at 16, length 16; then one mask.
 /// let book = [1, 0, 1, 0, 0, 0, 12, 0, 16, 0, 16, 0, 1, 0, 0, 0];
 /// assert_eq!(check(&book), Ok(()));
 /// assert_eq!(check(&book[..11]), Err(Refusal::TooShort));
@@ -116,7 +116,7 @@ pub fn check(book: &[u8]) -> Result<(), Refusal> {
 /// within them.
 ///
 /// Every plan that keeps the rows keeps these bounds. The table follows from n, k and the rows; the masks
-/// have no part in it. Any bytes may be given; the refusals are those of [`check`].
+/// and the idle type have no part in it. Any bytes may be given; the refusals are those of [`check`].
 ///
 /// # Panics
 ///
@@ -189,7 +189,7 @@ pub fn close_into(book: &[u8], lowers: &mut [u8], uppers: &mut [u8]) -> Result<V
 /// and for each type v and each end t from 1, with the bounds of [`close`]: the slots before t that have v
 /// are at least lower(v, t), and if they are just so many, v is the only type of each; the slots before t
 /// whose only type is v are at most upper(v, t), and if they are just so many, no other slot before t has v.
-/// Any bytes may be given; the refusals are those of [`check`].
+/// An idle type is a type as the others are. Any bytes may be given; the refusals are those of [`check`].
 ///
 /// # Panics
 ///

@@ -71,7 +71,8 @@ pub enum Standing {
 #[derive(Clone, Copy, Debug, PartialEq, Eq, Hash)]
 #[must_use = "a decision may be dead"]
 pub enum Decided {
-    /// A stable list lies within the cut masks, and the largest is taken. `struck` is how many types the masks lost.
+    /// A stable list lies within the cut masks, and the largest is taken. `struck` is how many types the
+    /// masks lost, the book's idle type left out.
     Live { struck: u32 },
     /// No stable list lies within the cut masks. The masks stay, and until a back the session is dead.
     Dead,

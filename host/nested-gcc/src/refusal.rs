@@ -20,8 +20,8 @@ pub enum Refusal {
     TooShort,
     /// 2: n, k or r out of range.
     OutOfRange,
-    /// 3: byte 3 not 0.
-    ReservedByte,
+    /// 3: byte 3 above k: an idle type that the book does not have.
+    IdleType,
     /// 4: an offset or length differs, or the lent length does.
     Layout,
     /// 5: mask 0, or a bit from k up.
@@ -47,7 +47,7 @@ pub enum Refusal {
 const TABLE: [(Refusal, u32, &str); 12] = [
     (Refusal::TooShort, 1, "book under 12 bytes"),
     (Refusal::OutOfRange, 2, "n, k or r out of range"),
-    (Refusal::ReservedByte, 3, "byte 3 not 0"),
+    (Refusal::IdleType, 3, "byte 3 above k"),
     (Refusal::Layout, 4, "an offset or length differs, or the lent length does"),
     (Refusal::Mask, 5, "mask 0, or a bit from k up"),
     (Refusal::RowType, 6, "row type k or more, or its second byte not 0"),
@@ -60,6 +60,11 @@ const TABLE: [(Refusal, u32, &str); 12] = [
 ];
 
 impl Refusal {
+    /// The older name of [`Refusal::IdleType`].
+    #[deprecated(since = "1.3.0", note = "number 3 is `IdleType`")]
+    #[allow(non_upper_case_globals)]
+    pub const ReservedByte: Refusal = Refusal::IdleType;
+
     /// The refusal that an exported function answers as 256 + its number.
     pub(crate) fn from_answer(answer: u32) -> Option<Refusal> {
         TABLE.iter().find(|row| REFUSED + row.1 == answer).map(|row| row.0)

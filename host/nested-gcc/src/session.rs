@@ -16,7 +16,7 @@ pub struct Session {
 #[derive(Clone, Copy, Debug, PartialEq, Eq, Hash)]
 pub enum Answer {
     /// An assign or a remove: a stable list lies within the cut masks, and the largest is taken. `struck` is
-    /// how many types the masks lost.
+    /// how many types the masks lost, the book's idle type left out.
     Live { struck: u32 },
     /// An assign or a remove: no stable list lies within the cut masks. The masks stay, and until a back the
     /// session is dead.

@@ -20,7 +20,8 @@ const TRAIL_BYTES: usize = 25088;
 #[derive(Clone, Copy)]
 #[repr(C)]
 pub struct State {
-    /// n, k, the calls made, the standing, the call that it is dead since, the open marks, the trail's height.
+    /// n, k, the calls made, the standing, the call that it is dead since, the open marks, and a number of the
+    /// library's own.
     record: [usize; RECORD_NUMBERS],
     masks: [u32; SLOTS_MOST],
     cells: [u16; CELLS],

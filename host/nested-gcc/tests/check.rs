@@ -1,7 +1,7 @@
 //! `check` on books written byte by byte: each refusal of `docs/SPECIFICATION.md`, section 8, with an example, each
 //! limit with its neighbours, and the order of the refusals. Every expected number is typed by hand.
 
-use nested_gcc::{check, Refusal};
+use nested_gcc::{check, Book, Refusal};
 
 /// A row's fields: type, second byte, end, lower, upper.
 type Row = (u8, u8, u16, u16, u16);
@@ -77,7 +77,7 @@ fn number(book: &[u8]) -> u32 {
 #[test]
 fn m8_typed_by_hand_is_good() {
     let book = [
-        3, 0, 2, 0, 1, 0, 12, 0, 24, 0, 32, 0, // n, k, 0, r, masks at, rows at, length
+        3, 0, 2, 0, 1, 0, 12, 0, 24, 0, 32, 0, // n, k, no idle type, r, masks at, rows at, length
         3, 0, 0, 0, 3, 0, 0, 0, 3, 0, 0, 0, // masks
         0, 0, 2, 0, 1, 0, 255, 255, // type, 0, end, lower, upper
     ];
@@ -91,7 +91,7 @@ fn examples_of_the_table() {
     let of_257_slots = fields(2, &[3; 257], &[]).bytes();
     assert_eq!(check(&m8().bytes()[..11]), Err(Refusal::TooShort));
     assert_eq!(check(&of_257_slots), Err(Refusal::OutOfRange));
-    assert_eq!(check(&m8_but(|b| b.byte_3 = 1)), Err(Refusal::ReservedByte));
+    assert_eq!(check(&m8_but(|b| b.byte_3 = 3)), Err(Refusal::IdleType));
     assert_eq!(check(&m8_but(|b| b.rows_at = 13)), Err(Refusal::Layout));
     assert_eq!(check(&m8_but(|b| b.masks[0] = 4)), Err(Refusal::Mask));
     assert_eq!(check(&m8_but(|b| b.rows[0].0 = 2)), Err(Refusal::RowType));
@@ -105,7 +105,7 @@ fn words_and_numbers_of_the_table() {
     let table = [
         (Refusal::TooShort, 1, "book under 12 bytes"),
         (Refusal::OutOfRange, 2, "n, k or r out of range"),
-        (Refusal::ReservedByte, 3, "byte 3 not 0"),
+        (Refusal::IdleType, 3, "byte 3 above k"),
         (Refusal::Layout, 4, "an offset or length differs, or the lent length does"),
         (Refusal::Mask, 5, "mask 0, or a bit from k up"),
         (Refusal::RowType, 6, "row type k or more, or its second byte not 0"),
@@ -117,6 +117,22 @@ fn words_and_numbers_of_the_table() {
         assert_eq!(refusal.number(), number);
         assert_eq!(refusal.to_string(), words);
     }
+}
+
+/// The older name of number 3 stands for the refusal, also in a pattern.
+#[test]
+#[allow(deprecated)]
+fn the_older_name_of_number_3() {
+    assert_eq!(Refusal::ReservedByte, Refusal::IdleType);
+    assert_eq!(Refusal::ReservedByte.number(), 3);
+    let named = |refusal| match refusal {
+        Refusal::OutOfRange => "before",
+        Refusal::ReservedByte => "number 3",
+        _ => "another",
+    };
+    assert_eq!(named(Refusal::IdleType), "number 3");
+    assert_eq!(named(Refusal::Layout), "another");
+    assert!(matches!(check(&m8_but(|b| b.byte_3 = 3)), Err(Refusal::ReservedByte)));
 }
 
 #[test]
@@ -181,11 +197,56 @@ fn longest_book() {
     assert_eq!(number(&last_mask.bytes()), 5);
 }
 
+/// 0 for no idle type, else that type plus 1, up to k.
 #[test]
 fn byte_3() {
-    for (byte, expected) in [(0, 0), (1, 3), (128, 3), (255, 3)] {
-        assert_eq!(number(&m8_but(|b| b.byte_3 = byte)), expected, "byte 3 = {byte}");
+    for (types, byte, expected) in [
+        (1, 0, 0),
+        (1, 1, 0),
+        (1, 2, 3),
+        (1, 255, 3),
+        (2, 0, 0),
+        (2, 1, 0),
+        (2, 2, 0),
+        (2, 3, 3),
+        (2, 128, 3),
+        (2, 255, 3),
+        (32, 0, 0),
+        (32, 1, 0),
+        (32, 31, 0),
+        (32, 32, 0),
+        (32, 33, 3),
+        (32, 255, 3),
+    ] {
+        let book = Fields { byte_3: byte, ..fields(types, &[1], &[]) };
+        assert_eq!(number(&book.bytes()), expected, "k = {types}, byte 3 = {byte}");
+        let masks = vec![1; 256];
+        let book = Fields { byte_3: byte, ..fields(types, &masks, &[(0, 0, 1, 0, 65535)]) };
+        assert_eq!(number(&book.bytes()), expected, "n = 256, k = {types}, byte 3 = {byte}");
     }
+}
+
+/// `Book` writes the type plus 1, and 255 for both of the greatest, which no book has.
+#[test]
+fn idle_types_as_written() {
+    let cases = [
+        (1, 0, 1, 0),
+        (1, 1, 2, 3),
+        (2, 1, 2, 0),
+        (2, 2, 3, 3),
+        (32, 31, 32, 0),
+        (32, 32, 33, 3),
+        (32, 254, 255, 3),
+        (32, 255, 255, 3),
+    ];
+    for (types, board_type, byte, expected) in cases {
+        let book = Book::new(1, types).idle(board_type).to_bytes();
+        assert_eq!(book[3], byte, "k = {types}, type {board_type}");
+        assert_eq!(number(&book), expected, "k = {types}, type {board_type}");
+    }
+    assert_eq!(Book::new(1, 2).to_bytes()[3], 0);
+    // The last that is set counts.
+    assert_eq!(Book::new(1, 2).idle(7).idle(0).to_bytes()[3], 1);
 }
 
 /// M8 has its masks at 12, its rows at 24 and 32 bytes.
@@ -314,7 +375,7 @@ fn dead_books_are_good() {
 fn spoil(book: &mut Fields, number: u32) {
     match number {
         2 => book.k = 33,
-        3 => book.byte_3 = 1,
+        3 => book.byte_3 = 255,
         4 => book.masks_at = 13,
         5 => book.masks[2] = 0,
         6 => book.rows[0].1 = 1,
@@ -345,16 +406,19 @@ fn short_wins_over_all() {
     }
 }
 
-/// Each fault that number 2, or number 4, has, with each later one.
+/// Each fault that number 2, 3 or 4 has, with each later one.
 #[test]
 fn every_form_of_a_header_fault_wins() {
     type Change = fn(&mut Fields);
-    let changes: [(u32, Change); 9] = [
+    let changes: [(u32, Change); 12] = [
         (2, |b| b.n = 0),
         (2, |b| b.n = 257),
         (2, |b| b.k = 0),
         (2, |b| b.k = 33),
         (2, |b| b.r = 1025),
+        (3, |b| b.byte_3 = 3),
+        (3, |b| b.byte_3 = 33),
+        (3, |b| b.byte_3 = 255),
         (4, |b| b.masks_at = 11),
         (4, |b| b.rows_at = 25),
         (4, |b| b.length = 31),
@@ -366,6 +430,26 @@ fn every_form_of_a_header_fault_wins() {
             spoil(&mut book, second);
             change(&mut book);
             assert_eq!(number(&book.bytes()), expected, "{expected} with fault {second}");
+        }
+    }
+}
+
+/// A k out of range is refused by 2, be byte 3 above it or not; a byte 3 above k comes before each form of 4,
+/// and one that is not leaves the 4.
+#[test]
+fn two_then_three_then_four() {
+    for (types, byte) in [(0, 0), (0, 1), (0, 255), (33, 0), (33, 33), (33, 34), (255, 255)] {
+        let book = Fields { k: types, byte_3: byte, ..m8() };
+        assert_eq!(number(&book.bytes()), 2, "k = {types}, byte 3 = {byte}");
+    }
+    for (byte, expected) in [(0, 4), (1, 4), (2, 4), (3, 3), (255, 3)] {
+        for (masks_at, rows_at, length) in [(13, 24, 32), (12, 25, 32), (12, 24, 33)] {
+            let book = Fields { byte_3: byte, masks_at, rows_at, length, ..m8() };
+            assert_eq!(number(&book.bytes()), expected, "byte 3 = {byte}");
+        }
+        let book = m8_but(|b| b.byte_3 = byte);
+        for lent in [&book[..12], &book[..31], &[&book[..], &[0]].concat()] {
+            assert_eq!(number(lent), expected, "byte 3 = {byte}, {} bytes", lent.len());
         }
     }
 }

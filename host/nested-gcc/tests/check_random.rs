@@ -4,13 +4,13 @@ use std::hint::black_box;
 
 use nested_gcc::check;
 use plain_filter::{refusal, Book, Row};
-use random_books::{bytes, every_type, Random};
+use random_books::{bytes, every_type, with_idle, Random};
 
 const BOOKS: usize = 100_000;
 const GUARD: u8 = 0xc3;
 
-/// A good book, mostly small.
-fn good_book(random: &mut Random) -> Vec<u8> {
+/// A good book, mostly small. Its idle type, or none, is by the turn.
+fn good_book(random: &mut Random, turn: usize) -> Vec<u8> {
     let (n, r) = match random.below(40) {
         0 => (random.one_of(&[255, 256]), random.one_of(&[0, 1023, 1024])),
         _ => (1 + random.below(8), random.below(6)),
@@ -31,11 +31,12 @@ fn good_book(random: &mut Random) -> Vec<u8> {
             Row { board_type, end, lower, upper }
         })
         .collect();
-    bytes(&Book { n, k, masks, rows })
+    bytes(&with_idle(Book { n, k, idle: None, masks, rows }, turn / 64))
 }
 
-/// A book whose counts and fields lie about their limits; offsets and length are those of its counts.
-fn book_near_the_limits(random: &mut Random) -> Vec<u8> {
+/// A book whose counts and fields lie about their limits, byte 3 by the turn; offsets and length are those of
+/// its counts.
+fn book_near_the_limits(random: &mut Random, turn: usize) -> Vec<u8> {
     let n = random.one_of(&[0, 1, 1, 2, 2, 3, 256, 257]);
     let k = random.one_of(&[0, 1, 1, 2, 2, 8, 31, 32, 33]);
     let r = random.one_of(&[0, 1, 1, 2, 2, 3, 4, 1024, 1025]);
@@ -55,12 +56,13 @@ fn book_near_the_limits(random: &mut Random) -> Vec<u8> {
             };
         }
     }
-    bytes(&Book { n, k, masks, rows })
+    let byte_3: usize = [0, 0, 0, 0, 1, k, k + 1, 255][turn / 64 % 8];
+    bytes(&Book { n, k, idle: byte_3.checked_sub(1), masks, rows })
 }
 
 /// A good book with one byte changed: anywhere, or in the first 12 bytes, or in its last rows.
-fn flipped(random: &mut Random) -> Vec<u8> {
-    let mut bytes = good_book(random);
+fn flipped(random: &mut Random, turn: usize) -> Vec<u8> {
+    let mut bytes = good_book(random, turn);
     let from_end = 1 + random.below(usize::min(16, bytes.len()));
     let at = match random.below(3) {
         0 => random.below(bytes.len()),
@@ -74,8 +76,8 @@ fn flipped(random: &mut Random) -> Vec<u8> {
     bytes
 }
 
-fn truncated(random: &mut Random) -> Vec<u8> {
-    let mut bytes = good_book(random);
+fn truncated(random: &mut Random, turn: usize) -> Vec<u8> {
+    let mut bytes = good_book(random, turn);
     let length = match random.below(2) {
         0 => random.below(bytes.len()),
         _ => random.below(16),
@@ -84,8 +86,8 @@ fn truncated(random: &mut Random) -> Vec<u8> {
     bytes
 }
 
-fn extended(random: &mut Random) -> Vec<u8> {
-    let mut bytes = good_book(random);
+fn extended(random: &mut Random, turn: usize) -> Vec<u8> {
+    let mut bytes = good_book(random, turn);
     for _ in 0..1 + random.below(9) {
         bytes.push(random.byte());
     }
@@ -114,21 +116,29 @@ fn guarded_number(bytes: &[u8], before: usize) -> u32 {
 fn random_and_damaged_books() {
     let mut random = Random::new(0x9e37_79b9_7f4a_7c15);
     let mut met = [0; 9];
+    let (mut idle, mut last_idle, mut past_k) = (0, 0, 0);
     for turn in 0..BOOKS {
         let bytes = match turn % 8 {
-            0 => good_book(&mut random),
-            1 | 2 => flipped(&mut random),
-            3 => truncated(&mut random),
-            4 => extended(&mut random),
+            0 => good_book(&mut random, turn),
+            1 | 2 => flipped(&mut random, turn),
+            3 => truncated(&mut random, turn),
+            4 => extended(&mut random, turn),
             5 => random_bytes(&mut random),
-            _ => book_near_the_limits(&mut random),
+            _ => book_near_the_limits(&mut random, turn),
         };
         let expected = refusal(&bytes);
         // The book begins at any place within 8 bytes.
         let number = guarded_number(&bytes, 32 + turn / 8 % 8);
         assert_eq!(number, expected, "book {turn}: {bytes:?}");
         met[expected as usize] += 1;
+        idle += usize::from(expected == 0 && bytes[3] > 0);
+        last_idle += usize::from(expected == 0 && bytes[3] == bytes[2]);
+        past_k += usize::from(expected == 3 && bytes[3] == bytes[2] + 1);
     }
     println!("books of each number from 0 on: {met:?}");
     assert!(met.iter().all(|&count| count >= 100), "books of each number from 0 on: {met:?}");
+    println!(
+        "{idle} good with an idle type, {last_idle} with the last; {past_k} refused with byte 3 at k + 1"
+    );
+    assert!([idle, last_idle, past_k].iter().all(|&count| count >= 100));
 }

@@ -249,7 +249,7 @@ fn refused_books() {
     let books = [
         (m2().to_bytes()[..11].to_vec(), Refusal::TooShort),
         (with(1, 1), Refusal::OutOfRange),
-        (with(3, 1), Refusal::ReservedByte),
+        (with(3, 3), Refusal::IdleType),
         (with(8, 33), Refusal::Layout),
         (with(12, 4), Refusal::Mask),
         (with(28, 0), Refusal::Mask),

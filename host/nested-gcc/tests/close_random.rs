@@ -7,7 +7,7 @@ use std::hint::black_box;
 use lent::Lent;
 use nested_gcc::{close_into, Refusal, Verdict};
 use plain_filter::{close, Book, Closing, Row};
-use random_books::{bytes, count, every_type, near_plan, plan, row_near_plan, Random};
+use random_books::{bytes, count, every_type, near_plan, plan, row_near_plan, with_idle, Random};
 
 const BOOKS: usize = 20_000;
 /// How often each kind of case comes up at least.
@@ -53,7 +53,7 @@ fn loose(random: &mut Random) -> Book {
             Row { board_type, end, lower, upper }
         })
         .collect();
-    Book { n, k, masks: vec![every_type(k); n], rows }
+    Book { n, k, idle: None, masks: vec![every_type(k); n], rows }
 }
 
 /// A row that the plan just breaks.
@@ -127,7 +127,7 @@ fn one_slot(random: &mut Random) -> Book {
             Row { board_type: random.below(k), end: 1, lower: random.one_of(&[0, 0, 0, 1]), upper }
         })
         .collect();
-    Book { n: 1, k, masks: vec![every_type(k)], rows }
+    Book { n: 1, k, idle: None, masks: vec![every_type(k)], rows }
 }
 
 fn long(random: &mut Random) -> Book {
@@ -168,7 +168,7 @@ fn lower_256(random: &mut Random) -> Book {
     let (n, k) = (random.one_of(&[256, 256, 255, 3]), random.between(1, 3));
     let row =
         Row { board_type: random.below(k), end: random.one_of(&[n, n, n - 1]), lower: 256, upper: None };
-    Book { n, k, masks: vec![every_type(k); n], rows: vec![row] }
+    Book { n, k, idle: None, masks: vec![every_type(k); n], rows: vec![row] }
 }
 
 /// A book whose death shows in the second round or later: rows near a plan, and one more, just past an entry
@@ -245,6 +245,10 @@ fn kinds(book: &Book, closing: &Closing) -> Vec<(&'static str, bool)> {
         ("n = 256", book.n == 256),
         ("lower 256", book.rows.iter().any(|row| row.lower == 256)),
         ("an entry above 255", entries.iter().any(|&(_, upper)| upper > 255)),
+        ("no idle type", book.idle.is_none()),
+        ("an idle type, live", book.idle.is_some() && live),
+        ("an idle type, dead", book.idle.is_some() && !live),
+        ("the last type idle", book.idle == Some(book.k - 1)),
     ]
 }
 
@@ -291,7 +295,7 @@ fn random_books() {
     assert_eq!(makers.len(), 200);
     let mut met: Vec<(&str, usize)> = Vec::new();
     for turn in 0..BOOKS {
-        let book = makers[turn % 200](&mut random);
+        let book = with_idle(makers[turn % 200](&mut random), turn / 200);
         assert_eq!(Book::parse(&bytes(&book)).as_ref(), Ok(&book), "the maker's book is a good one");
         let closing = close(&book);
         assert_closes(&mut random, &book, &closing);

@@ -2,7 +2,7 @@
 
 mod defined;
 
-use defined::{defined, HEADER};
+use defined::{defined, text, HEADER};
 use nested_gcc::{
     CallRefusal, Refusal, ANSWERS_BYTES, BOOK_BYTES, CALLS_BYTES, MARKS_MOST, MASKS_BYTES, NO_UPPER,
     ROWS_MOST, SLOTS_MOST, TABLE_BYTES, TYPES_MOST,
@@ -32,7 +32,7 @@ fn the_refusals_are_the_same_in_the_header_and_here() {
     let refusals = [
         ("TOO_SHORT", Refusal::TooShort.number(), 1),
         ("OUT_OF_RANGE", Refusal::OutOfRange.number(), 2),
-        ("RESERVED_BYTE", Refusal::ReservedByte.number(), 3),
+        ("IDLE_TYPE", Refusal::IdleType.number(), 3),
         ("LAYOUT", Refusal::Layout.number(), 4),
         ("MASK", Refusal::Mask.number(), 5),
         ("ROW_TYPE", Refusal::RowType.number(), 6),
@@ -54,6 +54,8 @@ fn the_refusals_are_the_same_in_the_header_and_here() {
         let line = format!("\n#define NESTED_GCC_{name} (NESTED_GCC_REFUSED + {typed}u) ");
         assert_eq!((HEADER.matches(&line).count(), here), (1, typed), "{name}");
     }
+    // The older name of number 3.
+    assert_eq!(text("NESTED_GCC_RESERVED_BYTE"), "NESTED_GCC_IDLE_TYPE");
 }
 
 /// Those that only the header names: the sizes of a state, and how a session stands.

@@ -55,7 +55,7 @@ fn with_rows(first: &str, row: &str, rows: usize) -> Vec<u8> {
 #[test]
 fn a_small_book_byte_by_byte() {
     let expected = [
-        3, 0, 2, 0, 2, 0, 12, 0, 24, 0, 40, 0, // n, k, 0, r, masks at, rows at, length
+        3, 0, 2, 0, 2, 0, 12, 0, 24, 0, 40, 0, // n, k, no idle type, r, masks at, rows at, length
         3, 0, 0, 0, 3, 0, 0, 0, 3, 0, 0, 0, // masks
         0, 0, 2, 0, 1, 0, 255, 255, // type, 0, end, lower, upper
         1, 0, 3, 0, 0, 0, 2, 0,

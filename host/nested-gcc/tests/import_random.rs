@@ -384,6 +384,7 @@ fn round_trips() {
         let imported = import_csv(&text).unwrap_or_else(|refusal| panic!("{:?}: {refusal}", Shown(&text)));
         assert_eq!(imported, book_of(&orders), "{:?}", Shown(&text));
         assert_eq!(imported, bytes(&book), "{:?}", Shown(&text));
+        assert_eq!((book.idle, imported[3]), (None, 0));
         assert_eq!(book.masks, vec![every_type(book.k); book.n]);
         assert_eq!(check(&imported), Ok(()));
 
@@ -420,7 +421,7 @@ fn round_trips() {
 #[test]
 fn all_ways_to_write_a_row() {
     let row = Row { board_type: 2, end: 5, lower: 3, upper: None };
-    let book = bytes(&Book { n: 5, k: 3, masks: vec![7; 5], rows: vec![row] });
+    let book = bytes(&Book { n: 5, k: 3, idle: None, masks: vec![7; 5], rows: vec![row] });
     let ways = |number: &str| -> Vec<String> {
         let contents = (number.len()..=5).map(|width| format!("{number:0>width$}"));
         contents.flat_map(|content| [format!("\"{content}\""), content]).collect()

@@ -6,11 +6,11 @@ mod memory;
 
 use std::collections::BTreeMap;
 
-use makers::{random_book, random_call, HABITS};
+use makers::{random_book, random_list, HABITS};
 use memory::{Guarded, Memory};
 use nested_gcc::{session, Answer, Decided, Live, Standing, Verdict, CALLS_BYTES};
 use plain_filter::{self as plain, Book, Kept};
-use random_books::{bytes, masks_around, near_plan, plan, Random};
+use random_books::{bytes, masks_around, near_plan, plan, with_idle, Random};
 
 const SESSIONS: usize = 3_000;
 /// How often each kind of case comes up at least.
@@ -133,16 +133,10 @@ fn call_typed(live: &mut Live, kind: u8, board_type: u8, slot: u16) -> [u32; 2] 
     words.unwrap_or_else(|refusal| [256 + refusal.number(), 0])
 }
 
-/// A list of random calls, made on the plain machine as it goes.
-fn random_list(random: &mut Random, book: &Book, length: usize, habit: usize) -> Vec<u8> {
-    let mut plain = Kept::open(book);
-    let mut calls = Vec::new();
-    for _ in 0..length {
-        let call = random_call(random, &HABITS[habit], &plain.machine, book.k);
-        plain.call(call);
-        calls.extend(call);
-    }
-    calls
+/// Whether the idle type makes a struck figure of the list less than it would be without.
+fn lessens(book: &Book, calls: &[u8], words: &[u32]) -> bool {
+    let without = Book { idle: None, ..book.clone() };
+    words_of(&session(&bytes(&without), calls).expect("an accepted list").answers) != words
 }
 
 fn assert_is_one_session(book: &Book, calls: &[u8], words: &[u32], three: &Three) {
@@ -157,7 +151,8 @@ fn random_pieces() {
     let mut random = Random::new(0x9b05_688c_2b3e_6c1f);
     let mut met: BTreeMap<&str, usize> = BTreeMap::new();
     for turn in 0..SESSIONS {
-        let book = random_book(&mut random);
+        // Lengths and habits go by the turn modulo 20: each of them meets each idle type.
+        let book = with_idle(random_book(&mut random), turn / 20);
         let length = if turn % 20 == 2 { 450 } else { random.between(0, 120) };
         let calls = random_list(&mut random, &book, length, turn % HABITS.len());
         let mut three = Three::open(&book, turn);
@@ -198,12 +193,17 @@ fn random_pieces() {
             at = to;
         }
         assert_is_one_session(&book, &calls, &words, &three);
+        let idle = if book.idle.is_some() { "an idle type" } else { "no idle type" };
+        *met.entry(idle).or_default() += 1;
+        if lessens(&book, &calls, &words) {
+            *met.entry("figures less for the idle type").or_default() += 1;
+        }
     }
     for (case, times) in &met {
         println!("{times:7} {case}");
         assert!(*times >= LEAST, "{times} times: {case}");
     }
-    assert_eq!(met.len(), 9);
+    assert_eq!(met.len(), 12);
 }
 
 /// Two sessions side by side, a third copied from the first on the way: each goes on as if it were alone.
@@ -212,6 +212,7 @@ fn random_copies() {
     let mut random = Random::new(0x1f83_d9ab_5be0_cd19);
     for turn in 0..SESSIONS / 10 {
         let (first, second) = (random_book(&mut random), random_book(&mut random));
+        let (first, second) = (with_idle(first, turn / 4), with_idle(second, turn / 4 + 1));
         let lists: Vec<Vec<u8>> = [&first, &second, &first]
             .into_iter()
             .map(|book| random_list(&mut random, book, 80, turn % HABITS.len()))
@@ -256,9 +257,9 @@ fn random_copies() {
 #[test]
 fn damaged_books() {
     let mut random = Random::new(0x3c6e_f372_fe94_f82b);
-    let (mut refused, mut good) = (BTreeMap::new(), 0);
+    let (mut refused, mut good, mut idle) = (BTreeMap::new(), 0, 0);
     for turn in 0..2 * SESSIONS {
-        let book = random_book(&mut random);
+        let book = with_idle(random_book(&mut random), turn);
         let mut memory = Memory::new(turn);
         assert!(memory.open(&bytes(&book)) < 2);
         let before = memory.clone();
@@ -282,20 +283,22 @@ fn damaged_books() {
                 assert_eq!(memory.masks.slice()[..other.n], plain.machine.masks, "{other:?}");
                 memory.assert_guards(usize::max(book.n, other.n));
                 good += 1;
+                idle += usize::from(other.idle != book.idle);
             }
         }
     }
-    println!("{good} good, refused {refused:?}");
+    println!("{good} good, of which {idle} have another idle type; refused {refused:?}");
     assert!(good >= LEAST && (2..=8).all(|number| refused[&number] >= LEAST));
+    assert!(idle >= LEAST / 5);
 }
 
 /// 100,000 calls by steps of up to 4096, against the plain session; the first 4096 against `session` too.
 #[test]
 fn a_long_session() {
     let mut random = Random::new(0x6a09_e667_f3bc_c908);
-    for (k, rows, slack, habit) in [(3, 60, 3, 0), (8, 100, 2, 1)] {
+    for (k, idle, rows, slack, habit) in [(3, Some(1), 60, 3, 0), (8, None, 100, 2, 1)] {
         let plan = plan(&mut random, 40, k, 3);
-        let mut book = near_plan(&mut random, &plan, k, rows, slack);
+        let mut book = Book { idle, ..near_plan(&mut random, &plan, k, rows, slack) };
         book.masks = masks_around(&mut random, &plan, k, 4);
         let calls = random_list(&mut random, &book, 100_000, habit);
         let mut three = Three::open(&book, k);

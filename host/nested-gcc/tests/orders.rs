@@ -55,7 +55,7 @@ fn the_example_prints_what_is_expected() {
 #[test]
 fn what_is_expected_is_the_second_filters() {
     let rows = ROWS.map(|(board_type, end, lower, upper)| Row { board_type, end, lower, upper });
-    let book = Book { n: SLOTS, k: TYPES, masks: vec![0b1111; SLOTS], rows: rows.to_vec() };
+    let book = Book { n: SLOTS, k: TYPES, idle: None, masks: vec![0b1111; SLOTS], rows: rows.to_vec() };
     let table = close(&book).table.expect("the orders close");
     let masks = settle(&book).masks.expect("the orders settle");
     let struck: u32 = masks.iter().map(|mask| TYPES as u32 - mask.count_ones()).sum();

@@ -19,7 +19,7 @@ fn book() -> Book {
             upper: upper.map(usize::from),
         })
         .to_vec();
-    Book { n: SLOTS.into(), k: TYPES.into(), masks: MASKS.to_vec(), rows }
+    Book { n: SLOTS.into(), k: TYPES.into(), idle: None, masks: MASKS.to_vec(), rows }
 }
 
 /// The first plan, in the order of its types, that begins with `begun`; rows are looked at where they end.

@@ -11,7 +11,7 @@ use lent::Lent;
 use makers::{random_book, random_call, Habit, HABITS};
 use nested_gcc::{session_into, Refusal, Verdict};
 use plain_filter::{close, Book, Machine};
-use random_books::{bytes, masks_around, near_plan, plan, Random};
+use random_books::{bytes, masks_around, near_plan, plan, with_idle, Random};
 
 const SESSIONS: usize = 5_000;
 /// How often each kind of case comes up at least.
@@ -32,6 +32,19 @@ impl Met {
         if is {
             self.count(case);
         }
+    }
+
+    /// A decision that is live, where a type is idle: whether that type, and another, is struck.
+    fn decision(&mut self, idle: usize, before: &Machine, after: &Machine) {
+        let struck: Vec<u32> = before.masks.iter().zip(&after.masks).map(|(old, new)| old & !new).collect();
+        let is_idle = struck.iter().any(|mask| mask >> idle & 1 == 1);
+        let is_other = struck.iter().any(|mask| mask & !(1 << idle) != 0);
+        self.count(match (is_idle, is_other) {
+            (true, true) => "live, the idle type struck and others",
+            (true, false) => "live, the idle type struck alone",
+            (false, true) => "live, others than the idle type struck",
+            (false, false) => "live, none struck, a type idle",
+        });
     }
 
     /// A call made on the machine `before`, and its words.
@@ -95,6 +108,9 @@ fn run(random: &mut Random, book: &Book, length: usize, habit: &Habit, met: &mut
         let before = machine.clone();
         let words = machine.call(call);
         met.call(&before, call, words);
+        if let (Some(idle), [0, _]) = (book.idle, words) {
+            met.decision(idle, &before, &machine);
+        }
         calls.extend(call);
         answers.extend(words.iter().flat_map(|word| word.to_le_bytes()));
     }
@@ -107,6 +123,9 @@ fn run(random: &mut Random, book: &Book, length: usize, habit: &Habit, met: &mut
     });
     met.count_if(length == 0, "no calls");
     met.count_if(length >= 100, "100 calls or more");
+    met.count_if(book.idle.is_none(), "no idle type");
+    met.count_if(book.idle == Some(0), "the first type idle");
+    met.count_if(book.idle == Some(book.k - 1), "the last type idle");
     let masks = machine.masks.iter().flat_map(|mask| mask.to_le_bytes()).collect();
     Run { opened, calls, answers, masks }
 }
@@ -162,6 +181,10 @@ fn cases() -> Vec<String> {
         "live with 1 struck",
         "live with 2 to 9 struck",
         "live with 10 or more struck",
+        "live, the idle type struck and others",
+        "live, the idle type struck alone",
+        "live, others than the idle type struck",
+        "live, none struck, a type idle",
         "dead by an assign",
         "dead by a remove",
         "show while live",
@@ -179,6 +202,9 @@ fn cases() -> Vec<String> {
         "opened dead in closing",
         "no calls",
         "100 calls or more",
+        "no idle type",
+        "the first type idle",
+        "the last type idle",
         "refused 12 of kind 1",
         "refused 12 of kind 2",
         "refused 12 of kind 5",
@@ -205,7 +231,8 @@ fn random_sessions() {
     let mut random = Random::new(0x510e_527f_ade6_82d1);
     let mut met = Met::default();
     for turn in 0..SESSIONS {
-        let book = random_book(&mut random);
+        // Lengths and habits go by the turn modulo 40: each of them meets each idle type.
+        let book = with_idle(random_book(&mut random), turn / 40);
         assert_eq!(Book::parse(&bytes(&book)).as_ref(), Ok(&book), "the maker's book is a good one");
         let habit = &HABITS[turn % HABITS.len()];
         let length = match turn % 40 {
@@ -229,14 +256,17 @@ fn random_sessions() {
     }
 }
 
-/// Lists of as many calls as there may be, on 256 slots: with 3 types, and with 32.
+/// Lists of as many calls as there may be, on 256 slots: with 3 types, and with 32; the first without an idle
+/// type.
 #[test]
 fn longest_lists() {
     let mut random = Random::new(0x1f83_d9ab_fb41_bd6b);
     let mut met = Met::default();
-    for (k, rows, slack, habit) in [(3, 100, 4, 0), (3, 200, 2, 1), (32, 800, 1, 0), (32, 400, 2, 2)] {
+    let cases =
+        [(3, None, 100, 4, 0), (3, Some(2), 200, 2, 1), (32, Some(0), 800, 1, 0), (32, Some(31), 400, 2, 2)];
+    for (k, idle, rows, slack, habit) in cases {
         let plan = plan(&mut random, 256, k, 3);
-        let mut book = near_plan(&mut random, &plan, k, rows, slack);
+        let mut book = Book { idle, ..near_plan(&mut random, &plan, k, rows, slack) };
         book.masks = masks_around(&mut random, &plan, k, 4);
         let run = run(&mut random, &book, CALLS, &HABITS[habit], &mut met);
         assert_eq!((run.opened, run.calls.len()), (Verdict::Live, 16384));
@@ -246,7 +276,13 @@ fn longest_lists() {
     for (case, times) in &met.0 {
         println!("{times:7} {case}");
     }
-    for case in ["live with 2 to 9 struck", "live with 10 or more struck", "back to other masks"] {
+    let cases = [
+        "live with 2 to 9 struck",
+        "live with 10 or more struck",
+        "live, the idle type struck and others",
+        "back to other masks",
+    ];
+    for case in cases {
         assert!(met.0[case] >= LEAST, "{case}");
     }
 }

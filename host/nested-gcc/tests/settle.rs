@@ -210,7 +210,7 @@ fn refused_books() {
     let books = [
         (with(0, 5)[..11].to_vec(), Refusal::TooShort),
         (with(1, 1), Refusal::OutOfRange),
-        (with(3, 1), Refusal::ReservedByte),
+        (with(3, 4), Refusal::IdleType),
         (with(8, 33), Refusal::Layout),
         (with(12, 8), Refusal::Mask),
         (with(28, 0), Refusal::Mask),

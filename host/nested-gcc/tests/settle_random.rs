@@ -7,7 +7,7 @@ use std::hint::black_box;
 use lent::Lent;
 use nested_gcc::{settle_into, Refusal, Verdict};
 use plain_filter::{settle, Book, Death, Row, Settling};
-use random_books::{bytes, every_type, masks_around, near_plan, plan, Random};
+use random_books::{bytes, every_type, masks_around, near_plan, plan, with_idle, Random};
 
 const BOOKS: usize = 20_000;
 /// How often each kind of case comes up at least.
@@ -73,7 +73,7 @@ fn loose(random: &mut Random) -> Book {
             Row { board_type, end, lower: random.below(end / 3 + 1), upper }
         })
         .collect();
-    Book { n, k, masks: (0..n).map(|_| any_mask(random, k)).collect(), rows }
+    Book { n, k, idle: None, masks: (0..n).map(|_| any_mask(random, k)).collect(), rows }
 }
 
 /// Rows near a plan, and one that takes no heed of it.
@@ -98,7 +98,7 @@ fn one_slot(random: &mut Random) -> Book {
             Row { board_type: random.below(k), end: 1, lower: random.one_of(&[0, 0, 0, 1]), upper }
         })
         .collect();
-    Book { n: 1, k, masks: vec![any_mask(random, k)], rows }
+    Book { n: 1, k, idle: None, masks: vec![any_mask(random, k)], rows }
 }
 
 fn no_rows(random: &mut Random) -> Book {
@@ -185,6 +185,10 @@ fn kinds(book: &Book, settling: &Settling) -> Vec<(&'static str, bool)> {
         ("n = 256", book.n == 256),
         ("n = 256, after a cut", live && book.n == 256 && fixes + strikes > 0),
         ("n = 256, k = 32", book.n == 256 && book.k == 32),
+        ("no idle type", book.idle.is_none()),
+        ("an idle type, after a cut", book.idle.is_some() && live && fixes + strikes > 0),
+        ("an idle type, dead", book.idle.is_some() && !live),
+        ("the last type idle", book.idle == Some(book.k - 1)),
     ]
 }
 
@@ -217,7 +221,7 @@ fn random_books() {
     assert_eq!(makers.len(), 200);
     let mut met: Vec<(&str, usize)> = Vec::new();
     for turn in 0..BOOKS {
-        let book = makers[turn % 200](&mut random);
+        let book = with_idle(makers[turn % 200](&mut random), turn / 200);
         assert_eq!(Book::parse(&bytes(&book)).as_ref(), Ok(&book), "the maker's book is a good one");
         let settling = settle(&book);
         assert_settles(&mut random, &book, &settling);

@@ -12,7 +12,7 @@ use nested_gcc::{
     check, close_into, import_csv_into, session_into, settle_into, Book, CallRefusal, Calls, Decided, Live,
     Refusal, Standing, Verdict, ANSWERS_BYTES, BOOK_BYTES, MASKS_BYTES, TABLE_BYTES,
 };
-use random_books::{bytes, masks_around, near_plan, plan, Random};
+use random_books::{bytes, masks_around, near_plan, plan, with_idle, Random};
 
 /// How many random books are measured.
 const BOOKS: usize = 1_000;
@@ -115,9 +115,10 @@ fn measure<T: PartialEq + Debug>(
     }
 }
 
-/// 256 slots, 32 types and 1023 rows: with one more row it is as long as a good book can be.
+/// 256 slots, 32 types, the last of them idle, and 1023 rows: with one more row it is as long as a good book
+/// can be.
 fn almost_longest() -> Book {
-    let mut book = Book::new(256, 32);
+    let mut book = Book::new(256, 32).idle(31);
     for row in 0..1023 {
         book = book.row((row % 32) as u8, 256, 8, None);
     }
@@ -314,7 +315,7 @@ fn assert_step(name: &str, needed: Needed) {
 }
 
 /// A book of 256 slots and 2 to 32 types around a plan, which it keeps, and a list of up to 400 decisions, marks and
-/// backs.
+/// backs. The length of the list says which type is idle.
 fn random_book_and_calls(random: &mut Random) -> (Vec<u8>, Calls) {
     let k = random.one_of(&[2, 3, 4, 6, 8, 16, 32]);
     let (longest, rows, slack) = (random.between(1, 4), random.between(32, 1024), random.below(3));
@@ -335,7 +336,7 @@ fn random_book_and_calls(random: &mut Random) -> (Vec<u8>, Calls) {
             _ => calls.remove(slot as u16, random.below(k) as u8),
         };
     }
-    (bytes(&book), calls)
+    (bytes(&with_idle(book, calls.len())), calls)
 }
 
 #[test]

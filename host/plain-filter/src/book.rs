@@ -7,6 +7,8 @@ pub struct Book {
     pub n: usize,
     /// Types.
     pub k: usize,
+    /// The type that means: the line stands. Struck figures leave it out, and nothing else looks at it.
+    pub idle: Option<usize>,
     /// For each slot, the types that may go there: bit v for type v.
     pub masks: Vec<u32>,
     /// In the book's order.
@@ -44,7 +46,7 @@ pub fn refusal(book: &[u8]) -> u32 {
     if !(1..=256).contains(&n) || !(1..=32).contains(&k) || r > 1024 {
         return 2;
     }
-    if book[3] != 0 {
+    if book[3] as usize > k {
         return 3;
     }
     let rows_at = 12 + 4 * n;
@@ -86,7 +88,15 @@ impl Book {
         let r = two(book, 4);
         let masks = (0..n).map(|slot| four(book, 12 + 4 * slot) as u32).collect();
         let rows = (0..r).map(|row| parse_row(book, 12 + 4 * n + 8 * row)).collect();
-        Ok(Book { n, k: book[2] as usize, masks, rows })
+        Ok(Book { n, k: book[2] as usize, idle: parse_idle(book[3]), masks, rows })
+    }
+}
+
+/// Byte 3 is 0 for no idle type, else that type plus 1.
+fn parse_idle(byte: u8) -> Option<usize> {
+    match byte {
+        0 => None,
+        _ => Some(byte as usize - 1),
     }
 }
 
@@ -112,7 +122,50 @@ mod tests {
     #[test]
     fn m8_is_taken_apart() {
         let row = Row { board_type: 0, end: 2, lower: 1, upper: None };
-        assert_eq!(Book::parse(&M8), Ok(Book { n: 3, k: 2, masks: vec![3, 3, 3], rows: vec![row] }));
+        let book = Book { n: 3, k: 2, idle: None, masks: vec![3, 3, 3], rows: vec![row] };
+        assert_eq!(Book::parse(&M8), Ok(book));
+    }
+
+    /// A book of one slot and k types, without rows, with this byte 3.
+    fn with_byte_3(k: u8, byte: u8) -> [u8; 16] {
+        [1, 0, k, byte, 0, 0, 12, 0, 16, 0, 16, 0, 1, 0, 0, 0]
+    }
+
+    #[test]
+    fn byte_3_is_the_idle_type_plus_1() {
+        let cases = [
+            (1, 0, Ok(None)),
+            (1, 1, Ok(Some(0))),
+            (1, 2, Err(3)),
+            (1, 255, Err(3)),
+            (2, 0, Ok(None)),
+            (2, 1, Ok(Some(0))),
+            (2, 2, Ok(Some(1))),
+            (2, 3, Err(3)),
+            (2, 255, Err(3)),
+            (32, 0, Ok(None)),
+            (32, 1, Ok(Some(0))),
+            (32, 32, Ok(Some(31))),
+            (32, 33, Err(3)),
+            (32, 255, Err(3)),
+        ];
+        for (k, byte, idle) in cases {
+            let parsed = Book::parse(&with_byte_3(k, byte)).map(|book| book.idle);
+            assert_eq!(parsed, idle, "k = {k}, byte 3 = {byte}");
+        }
+    }
+
+    /// A k out of range is refused by 2, whatever byte 3 is; then 3 comes before 4.
+    #[test]
+    fn order_of_2_3_and_4() {
+        for (k, byte) in [(0, 0), (0, 1), (33, 33), (33, 34), (255, 255)] {
+            assert_eq!(refusal(&with_byte_3(k, byte)), 2, "k = {k}, byte 3 = {byte}");
+        }
+        let mut book = with_byte_3(2, 3);
+        book[6] = 13;
+        assert_eq!(refusal(&book), 3);
+        assert_eq!(refusal(&with_byte_3(2, 3)[..15]), 3);
+        assert_eq!(refusal(&with_byte_3(2, 2)[..15]), 4);
     }
 
     #[test]
@@ -120,7 +173,8 @@ mod tests {
         // n = 1, k = 32, the mask 0x80402010, one row: type 31, end 1, lower 256, upper 2.
         let book = [1, 0, 32, 0, 1, 0, 12, 0, 16, 0, 24, 0, 0x10, 0x20, 0x40, 0x80, 31, 0, 1, 0, 0, 1, 2, 0];
         let row = Row { board_type: 31, end: 1, lower: 256, upper: Some(2) };
-        assert_eq!(Book::parse(&book), Ok(Book { n: 1, k: 32, masks: vec![0x80402010], rows: vec![row] }));
+        let parsed = Book { n: 1, k: 32, idle: None, masks: vec![0x80402010], rows: vec![row] };
+        assert_eq!(Book::parse(&book), Ok(parsed));
     }
 
     #[test]

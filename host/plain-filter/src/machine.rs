@@ -12,6 +12,8 @@ const MARKS: usize = 256;
 pub struct Machine {
     /// Types.
     k: usize,
+    /// The type that struck figures leave out.
+    idle: Option<usize>,
     /// The closed table; `None` after a dead opening.
     table: Option<Table>,
     /// M.
@@ -36,7 +38,7 @@ impl Machine {
             Ok(masks) => (masks, close(book).table),
             Err(_) => (vec![0; book.n], None),
         };
-        Machine { k: book.k, dead: table.is_none(), table, masks, pile: Vec::new() }
+        Machine { k: book.k, idle: book.idle, dead: table.is_none(), table, masks, pile: Vec::new() }
     }
 
     /// Makes one call: kind, type, slot in 2 bytes. The two words of its answer.
@@ -91,7 +93,7 @@ impl Machine {
         let table = self.table.as_ref().expect("a live session opened live");
         match largest_stable(table, &cut) {
             Some(settled) => {
-                let struck = ones(&self.masks) - ones(&settled);
+                let struck = self.ones(&self.masks) - self.ones(&settled);
                 self.masks = settled;
                 [0, struck]
             }
@@ -100,6 +102,12 @@ impl Machine {
                 [1, 0]
             }
         }
+    }
+
+    /// How many types the masks have, the idle type left out.
+    fn ones(&self, masks: &[u32]) -> u32 {
+        let idle = self.idle.map_or(0, |v| 1 << v);
+        masks.iter().map(|mask| (mask & !idle).count_ones()).sum()
     }
 
     /// How many walls of the kind and type stand: corners with a slack above 0 and below that of every later
@@ -130,8 +138,4 @@ fn is_corner(table: &Table, kind: Walls, v: usize, t: usize) -> bool {
         Walls::Upper => upper[t] == upper[t - 1] && (t == n || upper[t + 1] == upper[t] + 1),
         Walls::Lower => lower[t] == lower[t - 1] + 1 && (t == n || lower[t + 1] == lower[t]),
     }
-}
-
-fn ones(masks: &[u32]) -> u32 {
-    masks.iter().map(|mask| mask.count_ones()).sum()
 }

@@ -94,7 +94,7 @@ fn compare(n: usize, k: usize, books: impl Iterator<Item = Vec<Row>>) -> Met {
     let closed_tables = closed_tables(n, k);
     let mut met = Met::default();
     for rows in books {
-        let book = Book { n, k, masks: vec![every_type(k); n], rows };
+        let book = Book { n, k, idle: None, masks: vec![every_type(k); n], rows };
         let closing = close(&book);
         assert_eq!(closing.table.as_ref(), loosest(&closed_tables, &start(&book)), "{book:?}");
         let count = if closing.table.is_some() { &mut met.live } else { &mut met.dead };

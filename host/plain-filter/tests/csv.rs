@@ -25,7 +25,8 @@ fn row(record: &str) -> Row {
     let text = format!("5,3\r\n{record}\r\n");
     let bytes = import_csv(text.as_bytes(), ROOM).unwrap_or_else(|number| panic!("{text:?}: {number}"));
     let book = Book::parse(&bytes).expect("a good book");
-    assert_eq!((book.n, book.k, &book.masks[..], book.rows.len()), (5, 3, &[7; 5][..], 1), "{text:?}");
+    assert_eq!((book.n, book.k, book.idle), (5, 3, None), "{text:?}");
+    assert_eq!((&book.masks[..], book.rows.len()), (&[7; 5][..], 1), "{text:?}");
     book.rows[0]
 }
 

@@ -1,5 +1,5 @@
-//! The plain machine on runs with every word typed by hand: M8, what a dead opening answers, each refusal, and
-//! walls.
+//! The plain machine on runs with every word typed by hand: M8, also with an idle type, what a dead opening
+//! answers, each refusal, and walls.
 
 use plain_filter::{Book, Machine, Row, Walls};
 
@@ -8,7 +8,7 @@ fn row(board_type: usize, end: usize, lower: usize, upper: Option<usize>) -> Row
 }
 
 fn book(k: usize, masks: &[u32], rows: &[Row]) -> Book {
-    Book { n: masks.len(), k, masks: masks.to_vec(), rows: rows.to_vec() }
+    Book { n: masks.len(), k, idle: None, masks: masks.to_vec(), rows: rows.to_vec() }
 }
 
 /// M8's book: type 0 end 2 lower 1.
@@ -42,6 +42,50 @@ fn m8_run() {
         ],
     );
     assert_eq!(machine.masks, [1, 2, 3]);
+}
+
+/// Each decision of M8's run takes one of either type: an idle type leaves one of the two.
+#[test]
+fn m8_run_with_an_idle_type() {
+    for idle in [0, 1] {
+        let mut machine = Machine::open(&Book { idle: Some(idle), ..m8() });
+        assert!(!machine.dead);
+        assert_run(
+            &mut machine,
+            &[
+                ([3, 0, 0, 0], [3, 0]),
+                ([1, 1, 0, 0], [0, 1]),
+                ([6, 1, 0, 0], [2, 0]),
+                ([4, 0, 0, 0], [3, 0]),
+                ([6, 1, 0, 0], [2, 1]),
+                ([2, 0, 1, 0], [0, 1]),
+                ([5, 0, 0, 0], [2, 1]),
+                ([1, 1, 0, 0], [1, 0]),
+                ([1, 0, 2, 0], [271, 0]),
+            ],
+        );
+        assert_eq!(machine.masks, [1, 2, 3]);
+    }
+}
+
+/// Slot 2 loses type 1, and no other slot loses a type.
+#[test]
+fn one_type_struck() {
+    for (idle, words) in [(None, [0, 1]), (Some(0), [0, 1]), (Some(1), [0, 0])] {
+        let mut machine = Machine::open(&Book { idle, ..m8() });
+        assert_run(&mut machine, &[([1, 0, 2, 0], words)]);
+        assert_eq!(machine.masks, [3, 3, 1]);
+    }
+}
+
+/// Slot 1 keeps type 31 alone, and slot 0 loses type 0.
+#[test]
+fn the_idle_type_of_32() {
+    for (idle, assigned, removed) in [(None, 31, 1), (Some(0), 30, 0), (Some(1), 30, 1), (Some(31), 31, 1)] {
+        let mut machine = Machine::open(&Book { idle, ..book(32, &[u32::MAX; 2], &[]) });
+        assert_run(&mut machine, &[([1, 31, 1, 0], [0, assigned]), ([2, 0, 0, 0], [0, removed])]);
+        assert_eq!(machine.masks, [0xffff_fffe, 0x8000_0000]);
+    }
 }
 
 /// Dead in closing, and dead in settling: masks 0, no walls, nothing to go back to.

@@ -152,7 +152,7 @@ fn random_books() {
 #[test]
 fn m7_has_no_plan() {
     let row = |board_type| Row { board_type, end: 4, lower: 0, upper: Some(1) };
-    let book = Book { n: 4, k: 4, masks: vec![3, 3, 3, 12], rows: vec![row(0), row(1)] };
+    let book = Book { n: 4, k: 4, idle: None, masks: vec![3, 3, 3, 12], rows: vec![row(0), row(1)] };
     assert_eq!(settle(&book).masks, Ok(vec![3, 3, 3, 12]));
     assert!(plans(&book).is_empty());
     compare(&book, &mut Met::default());
@@ -162,7 +162,7 @@ fn m7_has_no_plan() {
 #[test]
 fn two_of_type_0_are_enough() {
     let row = |board_type, lower| Row { board_type, end: 5, lower, upper: None };
-    let book = Book { n: 5, k: 3, masks: vec![1, 1, 7, 7, 7], rows: vec![row(1, 2), row(2, 1)] };
+    let book = Book { n: 5, k: 3, idle: None, masks: vec![1, 1, 7, 7, 7], rows: vec![row(1, 2), row(2, 1)] };
     assert_eq!(settle(&book).masks, Ok(vec![1, 1, 6, 6, 6]));
     compare(&book, &mut Met::default());
 }

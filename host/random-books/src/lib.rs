@@ -3,6 +3,7 @@
 //! - [`Random`]: the generator of numbers.
 //! - [`plan`], [`count`]: a random plan, and how many of a type it has before an end.
 //! - [`near_plan`]: a book whose rows lie near the counts of a plan.
+//! - [`with_idle`]: a book with one of its types idle, or none.
 //! - [`masks_around`]: masks that hold a plan, and more types or fewer.
 //! - [`bytes`]: the bytes of a book.
 
@@ -83,8 +84,8 @@ pub fn row_near_plan(
     Row { board_type, end, lower, upper: Some(upper.min(256)) }
 }
 
-/// A book with every type in every slot and `rows` rows at random types and ends, each kept by the plan with
-/// that slack.
+/// A book with every type in every slot, none of them idle, and `rows` rows at random types and ends, each
+/// kept by the plan with that slack.
 pub fn near_plan(random: &mut Random, plan: &[usize], k: usize, rows: usize, slack: usize) -> Book {
     let n = plan.len();
     let rows = (0..rows)
@@ -94,7 +95,13 @@ pub fn near_plan(random: &mut Random, plan: &[usize], k: usize, rows: usize, sla
             row_near_plan(random, plan, board_type, end, slack)
         })
         .collect();
-    Book { n, k, masks: vec![every_type(k); n], rows }
+    Book { n, k, idle: None, masks: vec![every_type(k); n], rows }
+}
+
+/// The book with byte 3 at `number` modulo k + 1: no idle type, or one of its types.
+pub fn with_idle(book: Book, number: usize) -> Book {
+    let byte = number % (book.k + 1);
+    Book { idle: byte.checked_sub(1), ..book }
 }
 
 /// For each slot the plan's type, and each other type in so many of eight cases.
@@ -105,14 +112,14 @@ pub fn masks_around(random: &mut Random, plan: &[usize], k: usize, eighths: usiz
     plan.iter().map(with_others).collect()
 }
 
-/// The bytes of the book. Each field is cut to its width; the counts are n, k and that of the rows, and
-/// offsets and length are those of the masks and rows.
+/// The bytes of the book. Each field is cut to its width; the counts are n, k and that of the rows, byte 3 is
+/// 0 or the idle type plus 1, and offsets and length are those of the masks and rows.
 pub fn bytes(book: &Book) -> Vec<u8> {
     let rows_at = 12 + 4 * book.masks.len();
     let length = rows_at + 8 * book.rows.len();
     let mut bytes = Vec::with_capacity(length);
     bytes.extend((book.n as u16).to_le_bytes());
-    bytes.extend([book.k as u8, 0]);
+    bytes.extend([book.k as u8, book.idle.map_or(0, |v| v + 1) as u8]);
     for field in [book.rows.len(), 12, rows_at, length] {
         bytes.extend((field as u16).to_le_bytes());
     }

@@ -57,7 +57,7 @@ pub fn samples() -> Vec<Sample> {
         ("M8", m8().to_bytes()),
         ("bad_1_eleven_bytes", m8().to_bytes()[..11].to_vec()),
         ("bad_2_n_257", Book::new(257, 2).to_bytes()),
-        ("bad_3_byte_3_is_1", m8_with_byte(BYTE_3, 1)),
+        ("bad_3_byte_3_is_3", m8_with_byte(BYTE_3, 3)),
         ("bad_4_rows_at_13", m8_with(ROWS_OFFSET, 13)),
         ("bad_5_mask_4", m8_with_byte(MASK_OF_SLOT_0, 4)),
         ("bad_6_type_2", m8_with_byte(ROW_TYPE, 2)),

@@ -30,8 +30,8 @@ fn files_are_the_generators() {
     }
 }
 
-/// The good books typed byte by byte: n, k, 0, r, masks at, rows at, length; then the masks; then
-/// for each row type, 0, end, lower, upper.
+/// The good books typed byte by byte: n, k, no idle type, r, masks at, rows at, length; then the
+/// masks; then for each row type, 0, end, lower, upper.
 #[test]
 fn good_books_have_these_bytes() {
     let files = bundled();

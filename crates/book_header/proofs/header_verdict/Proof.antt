@@ -4,10 +4,10 @@ use mathlib.Core.Path.{sym, _∙_}
 use native.Mathlib.Omega.{arith}
 use lib.ListN.{length}
 use borrow.Author.Needs.{needs}
-use borrow.Author.Tests.{lt-ltb, le-ltb, eq-eqb}
-use Rattle.book.specs.Layout.{reserved}
+use borrow.Author.Tests.{lt-ltb, le-ltb}
+use Rattle.book.specs.Layout.{values, idle}
 use Rattle.book.specs.Refusal.{headerFault}
-use Rattle.book.proofs.RefusalLaws.{headerFault-reserved}
+use Rattle.book.proofs.RefusalLaws.{headerFault-idle}
 use Rattle.book_header.proofs.header_verdict.Statement.{statement}
 use Rattle.book_header.proofs.header_verdict.Tie as tie
 
@@ -26,17 +26,20 @@ returns-2 c =
     let b = c .before .before .before .before .args .book .now in
     simp (le-ltb (length b) 12 (c .before .before .if1 .left), sym (c .before .out-of-range .ensures) ∙ c .if2 .taken)
 
-byte-requires : tie.Need-byte-requires
-byte-requires c κs = search needs
+values-requires : tie.Need-values-requires
+values-requires c κs = search needs
+
+idle-requires : tie.Need-idle-requires
+idle-requires c κs = search needs
 
 returns-3 : tie.Need-returns-3
 returns-3 c =
-    let s = c .before .before .before .before .before .before in
+    let s = c .before .before .before .before .before .before .before in
     let b = s .args .book .now in
     sym
-    (headerFault-reserved (s .args .limits) b (le-ltb (length b) 12 (c .before .before .before .before .if1 .left))
-    (sym (c .before .before .before .out-of-range .ensures) ∙ c .before .before .if2 .left)
-    (λ e. omega arith))
+    (headerFault-idle (s .args .limits) b (le-ltb (length b) 12 (c .before .before .before .before .before .if1 .left))
+    (sym (c .before .before .before .before .out-of-range .ensures) ∙ c .before .before .before .if2 .left)
+    (omega arith))
 
 misplaced-requires : tie.Need-misplaced-requires
 misplaced-requires c κs = search needs
@@ -44,26 +47,26 @@ misplaced-requires c κs = search needs
 returns-4 : tie.Need-returns-4
 unfolding headerFault
 returns-4 c =
-    let b = c .before .before .before .before .before .before .before .before .args .book .now in
+    let b = c .before .before .before .before .before .before .before .before .before .args .book .now in
     simp (
-      le-ltb (length b) 12 (c .before .before .before .before .before .before .if1 .left),
-      sym (c .before .before .before .before .before .out-of-range .ensures) ∙ c .before .before .before .before .if2 .left,
-      eq-eqb (reserved b) 0 (omega arith),
+      le-ltb (length b) 12 (c .before .before .before .before .before .before .before .if1 .left),
+      sym (c .before .before .before .before .before .before .out-of-range .ensures) ∙ c .before .before .before .before .before .if2 .left,
+      le-ltb (values b) (idle b) (omega arith),
       sym (c .before .misplaced .ensures) ∙ c .if4 .taken,
     )
 
 returns-5 : tie.Need-returns-5
 unfolding headerFault
 returns-5 c =
-    let b = c .before .before .before .before .before .before .before .before .args .book .now in
+    let b = c .before .before .before .before .before .before .before .before .before .args .book .now in
     simp (
-      le-ltb (length b) 12 (c .before .before .before .before .before .before .if1 .left),
-      sym (c .before .before .before .before .before .out-of-range .ensures) ∙ c .before .before .before .before .if2 .left,
-      eq-eqb (reserved b) 0 (omega arith),
+      le-ltb (length b) 12 (c .before .before .before .before .before .before .before .if1 .left),
+      sym (c .before .before .before .before .before .before .out-of-range .ensures) ∙ c .before .before .before .before .before .if2 .left,
+      le-ltb (values b) (idle b) (omega arith),
       sym (c .before .misplaced .ensures) ∙ c .if4 .left,
     )
 
 pub header-verdict-spec : {M : Type 1} → statement M
 header-verdict-spec =
     tie.close
-    (tie.spec returns out-of-range-requires returns-2 byte-requires returns-3 misplaced-requires returns-4 returns-5)
+    (tie.spec returns out-of-range-requires returns-2 values-requires idle-requires returns-3 misplaced-requires returns-4 returns-5)

@@ -1,22 +1,26 @@
--- `cutting::struck` meets its contract. The invariant: `count` is how many strikes were passed. The measure is how many are left. One strike
--- more: `struck-next`. So many ones the masks have lost: `ones-lost`. Assumes nothing.
+-- `cutting::struck` meets its contract. The invariant: `count` is how many of the strikes that were passed took out another value than the idle one. The
+-- measure is how many are left. One strike more: `struck-next`. So many ones the masks have lost: `ones-lost`. Assumes nothing.
 use mathlib.Core.Path.{_≡_}
-use Prim.Native.Nat.{_-_, _≤_}
+use Prim.Native.Nat.{_+_, _-_, _≤_}
 use native.Mathlib.Omega.{arith}
-use borrow.Author.Needs.{needs}
-use Rattle.cutting.proofs.StruckLaws.{struck-next, ones-lost}
+use Rattle.acts.specs.Answers.{newsStruck}
+use Rattle.cutting.proofs.StruckLaws.{newsStruck-le, struck-next, ones-lost}
 use Rattle.cutting.proofs.struck.Statement.{statement}
 use Rattle.cutting.proofs.struck.Tie as tie
 
 abbrev Inv-loop : tie.InvT-loop
-Inv-loop trail n from to count₀ i₀ count i = (from ≤ i) × (i ≤ to) × (count ≡ i - from)
+Inv-loop trail n from to idle count₀ i₀ count i = (from ≤ i) × (i ≤ to) × (count ≡ newsStruck idle n trail from (i - from))
 
 abbrev μ-loop : tie.MeasureT-loop
-μ-loop trail n from to count₀ i₀ count i = to - i
+μ-loop trail n from to idle count₀ i₀ count i = to - i
 
 loop-holds : tie.Need-loop-holds Inv-loop μ-loop
 loop-holds c =
-    (omega arith, omega (arith, c .before .pre .order), omega arith)
+    let args = c .before .args in (
+      omega arith,
+      omega (arith, c .before .pre .order),
+      omega (arith, newsStruck-le (args .idle) (args .n) (args .trail .now) (args .from) (args .from - args .from)),
+    )
 
 value-at-requires : tie.Need-value-at-requires Inv-loop μ-loop
 value-at-requires c κs =
@@ -26,19 +30,28 @@ only-requires : tie.Need-only-requires Inv-loop μ-loop
 only-requires c κs =
     omega (arith, c .value-at .ensures)
 
-count-requires : tie.Need-count-requires Inv-loop μ-loop
-count-requires c κs =
-    search needs
+news-requires : tie.Need-news-requires Inv-loop μ-loop
+news-requires c κs =
+    c .before .before .before .before .before .pre .idle-fits
 
 add-count : tie.Need-add-count Inv-loop μ-loop
 add-count c =
-    let loop = c .before .before .before .before .loop in
+    let args = c .before .before .before .before .before .before .args in
     let pre = c .before .before .before .before .before .before .pre in
+    let loop = c .before .before .before .before .loop in
     let only = c .before .only in
-    let from = c .before .before .before .before .before .before .args .from in
-    let v = c .before .before .value-at .result in
-    let next = struck-next from (loop .i) (loop .count) (only .result) v (c .count .result) (loop .inv .0) (loop .inv .2) (only .ensures) (c .count .ensures) in
-    omega (arith, next, c .before .before .before .loop-test .taken, pre .upto, pre .heights-fit)
+    let value = c .before .before .value-at in
+    let trail = args .trail .now in
+    let next = struck-next (args .idle) (args .n) trail (args .from) (loop .i) (loop .count) (only .result) (value .result) (c .news .result)
+    (loop .inv .0) (loop .inv .2) (value .ensures) (only .ensures) (c .news .ensures) in
+    omega (
+      arith,
+      next,
+      newsStruck-le (args .idle) (args .n) trail (args .from) (loop .i + 1 - args .from),
+      c .before .before .before .loop-test .taken,
+      pre .upto,
+      pre .heights-fit,
+    )
 
 add-i : tie.Need-add-i Inv-loop μ-loop
 add-i c =
@@ -51,17 +64,18 @@ loop-less c =
 
 loop-again : tie.Need-loop-again Inv-loop μ-loop
 loop-again c =
+    let args = c .before .before .before .before .before .before .args in
     let loop = c .before .before .before .before .loop in
     let only = c .before .only in
-    let from = c .before .before .before .before .before .before .args .from in
-    let v = c .before .before .value-at .result in
-    let next = struck-next from (loop .i) (loop .count) (only .result) v (c .count .result) (loop .inv .0) (loop .inv .2) (only .ensures) (c .count .ensures) in
+    let value = c .before .before .value-at in
+    let next = struck-next (args .idle) (args .n) (args .trail .now) (args .from) (loop .i) (loop .count) (only .result) (value .result) (c .news .result)
+    (loop .inv .0) (loop .inv .2) (value .ensures) (only .ensures) (c .news .ensures) in
     (omega (arith, loop .inv .0), omega (arith, c .before .before .before .loop-test .taken), next)
 
 returns : tie.Need-returns Inv-loop μ-loop
 returns c =
     let last : c .before .loop .i ≡ c .before .before .before .args .to = omega (arith, c .loop-test .left, c .before .loop .inv .1) in
-    ones-lost _ _ _ _ _ (rw last at (c .before .loop .inv .2))
+    ones-lost _ _ _ _ _ _ (rw last at (c .before .loop .inv .2))
 
 pub struck-spec : {M : Type 1} → statement M
 struck-spec =
@@ -72,7 +86,7 @@ struck-spec =
     loop-holds
     value-at-requires
     only-requires
-    count-requires
+    news-requires
     add-count
     add-i
     loop-less

@@ -1,5 +1,7 @@
 //! Random books and calls, for the tests of sessions.
 
+#![allow(dead_code)] // not every test uses all of it
+
 use plain_filter::{Book, Machine, Row};
 use random_books::{every_type, masks_around, near_plan, plan, Random};
 
@@ -112,4 +114,16 @@ pub fn random_call(random: &mut Random, habit: &Habit, machine: &Machine, k: usi
     }
     let [low, high] = (slot as u16).to_le_bytes();
     [kind, board_type as u8, low, high]
+}
+
+/// A list of random calls, made on the plain machine as it goes.
+pub fn random_list(random: &mut Random, book: &Book, length: usize, habit: usize) -> Vec<u8> {
+    let mut machine = Machine::open(book);
+    let mut calls = Vec::new();
+    for _ in 0..length {
+        let call = random_call(random, &HABITS[habit], &machine, book.k);
+        machine.call(call);
+        calls.extend(call);
+    }
+    calls
 }

@@ -62,8 +62,14 @@ add-write-numbers c = search needs
 
 write-numbers-requires : tie.Need-write-numbers-requires
 write-numbers-requires c κs =
-    let stepped = c .before .before .before .before .before .before .before .before .before .before .before .before .before .before .before in
-    stepped .before .before .before .before .before .before .before .before .before .before .before .before .before .before .before .pre .kept .sized .numbers
+    let done = c .before .before .before .before .before .before .before .before .before .before in
+    let read = done .before .before .before .before .before .before in
+    let start = read .before .before .before .before .before .before .before .before .before .before .before .before .before .before in
+    let running = kept-running (start .pre .kept) (read .before .before .before .before .number-at2 .ensures) (read .before .before .number-at3 .ensures)
+    (read .session-in .ensures) in (
+      start .pre .kept .sized .numbers,
+      done .step-alone .ensures .does (running .table) (running .rules) (running .state) (running .represents) .represents .top-fits,
+    )
 
 same-length-2 : tie.Need-same-length-2
 same-length-2 c = search needs

@@ -19,11 +19,15 @@ number-at-requires-3 c κs = search needs
 number-at-requires-4 : tie.Need-number-at-requires-4
 number-at-requires-4 c κs = search needs
 
+idle-in-requires : tie.Need-idle-in-requires
+idle-in-requires c κs = search needs
+
 returns : tie.Need-returns
 returns c =
-    let told = c .before .before in
-    rw (told .standing-by-number .ensures, told .before .number-at2 .ensures, told .before .before .number-at .ensures)
-    (rw (c .before .number-at3 .ensures, c .number-at4 .ensures) refl)
+    let read = c .before in
+    let told = read .before .before in
+    rw (told .standing-by-number .ensures, told .before .number-at2 .ensures, told .before .before .number-at .ensures, c .idle-in .ensures)
+    (rw (read .before .number-at3 .ensures, read .number-at4 .ensures) refl)
 
 pub session-in-spec : {M : Type 1} → statement M
 session-in-spec =
@@ -34,4 +38,5 @@ session-in-spec =
     standing-by-number-requires
     number-at-requires-3
     number-at-requires-4
+    idle-in-requires
     returns)

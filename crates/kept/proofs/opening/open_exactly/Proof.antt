@@ -1,5 +1,6 @@
 -- `kept::opening::open_exactly` meets its contract: the arrays have room for every book (`ready-openable`), and the answer is that of the opening
 -- (`opened-shut`, `opened-live`). Assumes nothing.
+use mathlib.Core.List.{[]}
 use native.Mathlib.Nat.{le-refl}
 use Rattle.kept_model.proofs.EntriesLaws.{ready-openable, opened-shut, opened-live}
 use borrow.Author.Needs.{needs}
@@ -23,7 +24,10 @@ values-requires : tie.Need-values-requires
 values-requires c κs = search needs
 
 write-numbers-requires : tie.Need-write-numbers-requires
-write-numbers-requires c κs = search needs
+write-numbers-requires c κs =
+    let opened = c .before .before .before .before .before .before .before .before .before .before .before in
+    let start = opened .before .before .before .before .before .before .before .before .before .before .before in
+    (start .pre .numbers-sized, opened .open-session .ensures .represents [] .top-fits)
 
 is-shut-requires : tie.Need-is-shut-requires
 is-shut-requires c κs = search needs

@@ -76,8 +76,13 @@ add-write-numbers c =
 write-numbers-requires : tie.Need-write-numbers-requires
 write-numbers-requires c κs =
     let ran = c .before .before .before .before .before .before .before .before .before .before .before in
-    let tested = ran .before .before .before .before .before .before .before .before .before .before .before .before in
-    tested .before .before .before .before .before .before .before .before .before .before .before .pre .kept .sized .numbers
+    let read = ran .before .before .before .before .before .before in
+    let start = read .before .before .before .before .before .before .before .before .before .before .before .before .before .before .before .before .before in
+    let running = kept-running (start .pre .kept) (read .before .before .before .before .number-at2 .ensures) (read .before .before .number-at3 .ensures)
+    (read .session-in .ensures) in (
+      start .pre .kept .sized .numbers,
+      ran .run .ensures .does (running .table) (running .rules) (running .state) (running .represents) .represents .top-fits,
+    )
 
 stands-requires : tie.Need-stands-requires
 stands-requires c κs = search needs

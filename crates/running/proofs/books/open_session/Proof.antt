@@ -2,11 +2,20 @@
 -- (`opens-dead`). Assumes nothing.
 use mathlib.Core.Path.{_∙_, ap}
 use Prim.Native.Nat.{ℕ}
+use native.Mathlib.Omega.{arith}
 use borrow.Author.Needs.{needs}
 use lib.ListN.{replicate}
 use Rattle.running_model.proofs.BooksLaws.{opens-live, opens-dead}
 use Rattle.running.proofs.books.open_session.Statement.{statement}
 use Rattle.running.proofs.books.open_session.Tie as tie
+
+idle-requires : tie.Need-idle-requires
+idle-requires c κs =
+    omega (arith, c .before .before .before .before .before .before .pre .state .rises .book .inside)
+
+cast-idle : tie.Need-cast-idle
+cast-idle c =
+    omega (arith, c .idle .ensures .1)
 
 open-book-requires : tie.Need-open-book-requires
 open-book-requires c κs = search needs
@@ -31,7 +40,13 @@ same-length-5 c = search needs
 
 returns : tie.Need-returns
 returns c =
-    opens-live (c .before .before .before .before .before .before .before .before .before .before .before .before .before .before .before .before .before .before .before .before .before .before .before .before .before .pre) (c .before .before .before .before .before .before .before .before .before .before .before .before .before .open-book .kept .1 .0) (c .before .before .before .before .before .before .before .before .before .before .before .before .before .open-book .kept .1 .1 .0) (c .before .before .before .before .before .before .before .before .before .before .before .before .before .open-book .kept .1 .1 .1 .0) (c .before .before .before .before .before .before .before .before .before .before .before .before .before .open-book .last .1 .1 .1 .1 .0) (c .before .before .before .before .before .before .before .before .before .before .before .before .before .open-book .last .1 .1 .1 .1 .1 .0) (c .before .before .before .before .before .before .before .before .before .before .before .before .before .open-book .result) (c .before .outcome .given .1) (c .before .before .before .before .before .before .before .before .before .before .before .before .before .open-book .ensures)
+    let done = c .before .before .before .before .before .before .before .before .before .before .before .before .before in
+    let opened = done .open-book in
+    let read = done .before .before .before .before .before .before in
+    let start = read .before .before .before .before .before .before .before in
+    rw (read .idle .ensures .0)
+    (opens-live (start .pre) (opened .kept .1 .0) (opened .kept .1 .1 .0) (opened .kept .1 .1 .1 .0) (opened .last .1 .1 .1 .1 .0) (opened .last .1 .1 .1 .1 .1 .0)
+    (opened .result) (c .before .outcome .given .1) (opened .ensures))
 
 enum-told : tie.Need-enum-told
 enum-told c = search needs
@@ -56,12 +71,22 @@ same-length-10 c = search needs
 
 returns-2 : tie.Need-returns-2
 returns-2 c =
-    opens-dead (c .before .before .before .before .before .before .before .before .before .before .before .before .before .before .before .before .before .before .before .before .before .before .before .before .before .before .before .before .pre) (c .before .before .clear-masks .kept .0 ∙ c .before .before .before .before .before .before .before .before .before .before .before .before .before .before .before .before .open-book .kept .1 .0) (c .before .before .before .before .before .before .before .before .before .before .before .before .before .before .before .before .open-book .kept .1 .1 .0) (c .before .before .before .before .before .before .before .before .before .before .before .before .before .before .before .before .open-book .kept .1 .1 .1 .0) (c .before .before .before .before .before .before .before .before .before .before .before .before .before .before .before .before .open-book .last .1 .0) (c .before .before .before .before .before .before .before .before .before .before .before .before .before .before .before .before .open-book .last .1 .1 .1 .1 .0) (c .before .before .before .before .before .before .before .before .before .before .before .before .before .before .before .before .open-book .last .1 .1 .1 .1 .1 .0) (c .before .before .before .before .before .before .before .before .before .before .before .before .before .before .before .before .open-book .result) (c .before .before .before .before .enum-told .given .1) (c .before .before .before .before .before .before .before .before .before .before .before .before .before .before .before .before .open-book .ensures) (c .before .before .clear-masks .ensures ∙ ap (λ (m : ℕ). replicate m 0) (c .before .before .before .before .before .before .before .before .before .before .before .before .before .before .before .before .open-book .kept .1 .0))
+    let cleared = c .before .before .clear-masks in
+    let done = c .before .before .before .before .before .before .before .before .before .before .before .before .before .before .before .before in
+    let opened = done .open-book in
+    let read = done .before .before .before .before .before .before in
+    let start = read .before .before .before .before .before .before .before in
+    rw (read .idle .ensures .0)
+    (opens-dead (start .pre) (cleared .kept .0 ∙ opened .kept .1 .0) (opened .kept .1 .1 .0) (opened .kept .1 .1 .1 .0) (opened .last .1 .0)
+    (opened .last .1 .1 .1 .1 .0) (opened .last .1 .1 .1 .1 .1 .0) (opened .result) (c .before .before .before .before .enum-told .given .1) (opened .ensures)
+    (cleared .ensures ∙ ap (λ (m : ℕ). replicate m 0) (opened .kept .1 .0)))
 
 pub open-session-spec : {M : Type 1} → statement M
 open-session-spec =
     tie.close
     (tie.spec
+    idle-requires
+    cast-idle
     open-book-requires
     enum-known-outcome
     same-length

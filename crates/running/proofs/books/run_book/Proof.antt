@@ -12,18 +12,30 @@ is-shut-requires : tie.Need-is-shut-requires
 is-shut-requires c κs = search needs
 
 slots-requires : tie.Need-slots-requires
-slots-requires c κs = search needs
+slots-requires c κs =
+    let halfway = c .before .before .before .before .before .before .before .before .before .before .before .before .before in
+    let start = halfway .before .before .before .before .before .before .before .before .before .before .before .before .before in
+    omega (arith, start .pre .openable .state .rises .book .inside)
 
 values-requires : tie.Need-values-requires
 values-requires c κs =
-    omega (arith, c .before .before .before .before .before .before .before .before .before .before .before .before .before .before .before .before .before .before .before .before .before .before .before .before .before .before .before .pre .openable .state .rises .book .inside)
+    let halfway = c .before .before .before .before .before .before .before .before .before .before .before .before .before in
+    let start = halfway .before .before .before .before .before .before .before .before .before .before .before .before .before .before in
+    omega (arith, start .pre .openable .state .rises .book .inside)
 
 cast-k : tie.Need-cast-k
 cast-k c = search needs
 
 run-requires : tie.Need-run-requires
 run-requires c κs =
-    record { running = opened-running (c .before .before .before .before .before .before .before .before .before .before .before .before .before .before .before .before .before .before .open-session .ensures) (c .before .before .before .before .before .before .slots .ensures .0) (c .before .before .before .before .before .values .ensures .0) (c .before .before .before .before .before .before .before .before .before .before .before .before .before .before .before .before .before .before .before .before .before .before .before .before .before .before .before .before .before .before .before .before .before .args .heights .now); room = c .before .before .before .before .before .before .before .before .before .before .before .before .before .before .before .before .before .before .before .before .before .before .before .before .before .before .before .before .before .before .before .before .before .pre .room; numbers = omega (arith, c .before .before .before .before .before .before .before .before .before .before .before .before .before .before .before .before .before .before .before .before .before .before .before .before .before .before .before .before .before .before .before .before .before .good .1 .0) }
+    let read = c .before .before .before .before .before in
+    let opened = read .before .before .before .before .before .before .before .before .before .before .before .before .before in
+    let start = opened .before .before .before .before .before .before .before .before .before .before .before .before .before .before .before in
+    record {
+      running = opened-running (opened .open-session .ensures) (read .before .slots .ensures .0) (read .values .ensures .0) (start .args .heights .now);
+      room = start .pre .room;
+      numbers = omega (arith, start .good .1 .0);
+    }
 
 same-length : tie.Need-same-length
 same-length c = search needs
@@ -48,7 +60,13 @@ same-length-7 c = search needs
 
 returns : tie.Need-returns
 returns c =
-    book-ran (c .before .before .before .before .before .before .before .before .before .before .before .before .before .before .before .before .before .before .before .before .before .before .before .before .before .before .before .before .before .open-session .ensures) (c .before .before .before .before .before .before .before .before .before .before .before .before .before .before .before .before .before .slots .ensures .0) (c .before .before .before .before .before .before .before .before .before .before .before .before .before .before .before .before .values .ensures .0) (c .before .before .before .before .before .before .before .before .before .before .before .before .before .before .before .before .before .before .before .before .before .before .before .before .before .before .before .before .before .before .before .before .before .before .before .before .before .before .before .before .before .before .before .before .args .heights .now) (c .before .before .before .before .before .before .before .before .before .before .before .before .before .before .before .before .before .before .before .before .before .before .before .before .before .before .before .before .before .before .before .before .before .before .before .before .before .before .before .before .before .before .before .before .args .calls .now) (c .before .before .before .before .before .before .before .before .before .before .before .before .before .before .before .before .before .before .is-shut .result) (c .before .before .before .before .before .before .before .before .before .before .before .before .before .before .before .before .before .before .is-shut .ensures) (c .before .before .before .before .before .before .before .before .before .before .run .ensures)
+    let ran = c .before .before .before .before .before .before .before .before .before .before in
+    let read = ran .before .before .before .before .before .before in
+    let opened = read .before .before .before .before .before .before .before .before .before .before .before .before .before in
+    let start = opened .before .before .before .before .before .before .before .before .before .before .before .before .before .before .before in
+    let shut = read .before .before .is-shut in
+    book-ran (opened .open-session .ensures) (read .before .slots .ensures .0) (read .values .ensures .0) (start .args .heights .now) (start .args .calls .now)
+    (shut .result) (shut .ensures) (ran .run .ensures)
 
 pub run-book-spec : {M : Type 1} → statement M
 run-book-spec =
