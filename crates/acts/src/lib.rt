@@ -25,7 +25,7 @@ pub struct Session {
     // how many marks are open; so many of the heights are theirs
     pub marks: usize,
     // the book's byte 3: 0 where no value is idle, else that value plus 1
-    pub idle: u32,
+    pub idle: usize,
 }
 
 // What one call makes of a session, and its two words.

@@ -38,7 +38,7 @@ pub fn cut_slot(
 
 // The ones of the masks at height `from` of the trail less those at height `to`, the idle value left out: what each strike between took out is
 // counted.
-pub fn struck(trail: &[u8], n: usize, from: usize, to: usize, idle: u32) -> u32
+pub fn struck(trail: &[u8], n: usize, from: usize, to: usize, idle: usize) -> u32
     requires { ⌜ Strikes n idle (now trail) from to ⌝ }
     ensures { λ r. ⌜ OnesLost n idle (now (trail .entry)) from to r ⌝ }
 {
@@ -51,14 +51,14 @@ pub fn struck(trail: &[u8], n: usize, from: usize, to: usize, idle: u32) -> u32
 }
 
 // How many values m has besides the idle one; idle is 0 for none, else that value plus 1.
-fn news(m: u32, idle: u32) -> u32
+fn news(m: u32, idle: usize) -> u32
     requires { ⌜ idle ≤ 32 ⌝ }
     ensures { λ r. ⌜ r ≡ News.news idle m ⌝ }
 {
     if idle == 0 {
         return domains::count(m);
     }
-    domains::count(domains::without(m, idle - 1))
+    domains::count(domains::without(m, (idle - 1) as u32))
 }
 
 // The value of the strike i.

@@ -65,7 +65,7 @@ fn standing_by_number(number: usize, call: usize) -> Standing
 
 // Writes a session of so many slots and types after so many calls.
 pub fn write_numbers(numbers: &mut [usize], n: usize, k: usize, made: usize, session: Session)
-    requires { ⌜ (length (now numbers) ≡ 7) × (session .top < 65536) ⌝ }
+    requires { ⌜ (length (now numbers) ≡ 7) × (session .top < 65536) × (session .idle < 256) ⌝ }
     ensures { λ _. ⌜ now (numbers .exit) ≡ numbersOf n k made session ⌝ }
 {
     let standing = session.standing;
@@ -81,18 +81,18 @@ pub fn write_numbers(numbers: &mut [usize], n: usize, k: usize, made: usize, ses
 }
 
 // The trail's height, with 65536 times the idle byte.
-fn top_and_idle(top: usize, idle: u32) -> usize
-    requires { ⌜ top < 65536 ⌝ }
+fn top_and_idle(top: usize, idle: usize) -> usize
+    requires { ⌜ (top < 65536) × (idle < 256) ⌝ }
     ensures { λ r. ⌜ r ≡ idle * 65536 + top ⌝ }
 {
-    idle as usize * 65536 + top
+    idle * 65536 + top
 }
 
 // The idle byte in such a number.
-fn idle_in(number: usize) -> u32
+fn idle_in(number: usize) -> usize
     ensures { λ r. ⌜ r ≡ number / 65536 % 256 ⌝ }
 {
-    (number / 65536 % 256) as u32
+    number / 65536 % 256
 }
 
 fn standing_number(standing: Standing) -> usize

@@ -4,7 +4,7 @@
 use mathlib.Core.Path.{_≡_, refl, sym, ap, _∙_, subst}
 use mathlib.Core.List.{List, [], _++_}
 use mathlib.Core.Option.{Option, none, some}
-use Prim.Native.Nat.{ℕ, _+_, _≤_, _<_}
+use Prim.Native.Nat.{ℕ, _+_, _≤_}
 use native.Mathlib.Nat.{zero-add}
 use native.Mathlib.Omega.{arith}
 use lib.ListN.{length, getD, take, drop, length-append, length-drop, take-append-drop}
@@ -27,6 +27,7 @@ use Rattle.session_fault.specs.Entry.{mostMarks}
 use Rattle.entries_model.specs.Entries.{fullLimits}
 use Rattle.acts.specs.Given.{standingOf}
 use Rattle.acts.specs.Represents.{Suits, Represents, Running}
+use Rattle.acts.proofs.RepresentsLaws.{represents-idle}
 use Rattle.acts.specs.declared.Session.{Session}
 use Rattle.acts.specs.declared.Standing.{Standing}
 use Rattle.acts.specs.declared.Standing.the-variants.{OpenedDead, Live, Dead}
@@ -174,9 +175,9 @@ module _ {b : List ℕ} {past : List Call} {masks cells trail heights numbers : 
 
   kept-session : sessionIn numbers ≡ sessionAt b past (kept .top)
   kept-session =
-      let byte : Layout.idle b < 256 = omega (arith, kept .represents .suits .idle-known, kept .represents .room .values-fit) in
       ap sessionIn (kept .numbers)
-      ∙ sessionIn-numbers (Layout.slots b) (Layout.values b) (length past) (sessionAt b past (kept .top)) (kept .represents .top-fits) byte
+      ∙ sessionIn-numbers (Layout.slots b) (Layout.values b) (length past) (sessionAt b past (kept .top)) (kept .represents .top-fits)
+      (represents-idle (kept .represents))
 
   module _ {n k : ℕ} {session : Session} (n-is : n ≡ getD numbers 0 0) (k-is : k ≡ getD numbers 1 0) (session-in : session ≡ sessionIn numbers) where
     pub kept-represents : Represents (bookTable b) (openedRules b mostMarks) (stateAfter b mostMarks past) (take n masks) cells trail heights n k session

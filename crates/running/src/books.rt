@@ -50,7 +50,7 @@ pub fn open_session(
     requires { ⌜ Openable (now book) (now masks) (now cells) (now trail) (now lowers) (now uppers) ⌝ }
     ensures { λ r. ⌜ Opens (now (book .entry)) (now (masks .exit)) (now (cells .exit)) (now (trail .exit)) r ⌝ }
 {
-    let idle = idle(book) as u32;
+    let idle = idle(book);
     let outcome = open_book(book, masks, cells, trail, lowers, uppers);
     match outcome {
         Outcome::Live(h) => {

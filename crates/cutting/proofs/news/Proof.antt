@@ -15,6 +15,9 @@ returns c =
 sub-without : tie.Need-sub-without
 sub-without c = search needs
 
+cast-without : tie.Need-cast-without
+cast-without c = search needs
+
 without-requires : tie.Need-without-requires
 without-requires c κs = search needs
 
@@ -28,4 +31,4 @@ returns-2 c =
 pub news-spec : {M : Type 1} → statement M
 news-spec =
     tie.close
-    (tie.spec count-requires returns sub-without without-requires count-requires-2 returns-2)
+    (tie.spec count-requires returns sub-without cast-without without-requires count-requires-2 returns-2)

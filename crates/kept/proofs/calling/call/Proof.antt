@@ -4,6 +4,7 @@ use mathlib.Core.Path.{sym, _∙_}
 use native.Mathlib.Omega.{arith}
 use lib.Seq.{length-take-le}
 use Rattle.closing.proofs.CloseLaws.{overlay-front}
+use Rattle.acts.proofs.RepresentsLaws.{represents-idle}
 use Rattle.kept_model.proofs.KeptLaws.{kept-inside, kept-types-most, kept-running}
 use Rattle.kept_model.proofs.EntriesLaws.{call-refused, call-done}
 use borrow.Author.Needs.{needs}
@@ -66,10 +67,9 @@ write-numbers-requires c κs =
     let read = done .before .before .before .before .before .before in
     let start = read .before .before .before .before .before .before .before .before .before .before .before .before .before .before in
     let running = kept-running (start .pre .kept) (read .before .before .before .before .number-at2 .ensures) (read .before .before .number-at3 .ensures)
-    (read .session-in .ensures) in (
-      start .pre .kept .sized .numbers,
-      done .step-alone .ensures .does (running .table) (running .rules) (running .state) (running .represents) .represents .top-fits,
-    )
+    (read .session-in .ensures) in
+    let after = done .step-alone .ensures .does (running .table) (running .rules) (running .state) (running .represents) .represents in
+    (start .pre .kept .sized .numbers, after .top-fits, represents-idle after)
 
 same-length-2 : tie.Need-same-length-2
 same-length-2 c = search needs

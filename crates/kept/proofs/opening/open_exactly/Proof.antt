@@ -2,6 +2,7 @@
 -- (`opened-shut`, `opened-live`). Assumes nothing.
 use mathlib.Core.List.{[]}
 use native.Mathlib.Nat.{le-refl}
+use Rattle.acts.proofs.RepresentsLaws.{represents-idle}
 use Rattle.kept_model.proofs.EntriesLaws.{ready-openable, opened-shut, opened-live}
 use borrow.Author.Needs.{needs}
 use Rattle.kept.proofs.opening.open_exactly.Statement.{statement}
@@ -27,7 +28,8 @@ write-numbers-requires : tie.Need-write-numbers-requires
 write-numbers-requires c κs =
     let opened = c .before .before .before .before .before .before .before .before .before .before .before in
     let start = opened .before .before .before .before .before .before .before .before .before .before .before in
-    (start .pre .numbers-sized, opened .open-session .ensures .represents [] .top-fits)
+    let after = opened .open-session .ensures .represents [] in
+    (start .pre .numbers-sized, after .top-fits, represents-idle after)
 
 is-shut-requires : tie.Need-is-shut-requires
 is-shut-requires c κs = search needs

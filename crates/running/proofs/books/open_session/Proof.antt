@@ -13,10 +13,6 @@ idle-requires : tie.Need-idle-requires
 idle-requires c κs =
     omega (arith, c .before .before .before .before .before .before .pre .state .rises .book .inside)
 
-cast-idle : tie.Need-cast-idle
-cast-idle c =
-    omega (arith, c .idle .ensures .1)
-
 open-book-requires : tie.Need-open-book-requires
 open-book-requires c κs = search needs
 
@@ -86,7 +82,6 @@ open-session-spec =
     tie.close
     (tie.spec
     idle-requires
-    cast-idle
     open-book-requires
     enum-known-outcome
     same-length
