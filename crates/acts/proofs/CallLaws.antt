@@ -272,8 +272,8 @@ module _ {cells : List ℕ} {n k v : ℕ} {session : Session} (lower : Bool) whe
   walls-shut shut masks trail heights i =
       record {
         does = λ T R S represents.
-            let none = subst (λ (standing : Standing). StandsFor standing T R (S .saved) masks cells trail heights n k (session .top)) (is-shut (session .standing) shut)
-            (represents .stands) in
+            let none = subst (λ (standing : Standing). StandsFor standing T R (S .saved) masks cells trail heights n k (session .top))
+            (is-shut (session .standing) shut) (represents .stands) in
             read-answered i (Calls.walls lower v) (R .standing lower (S .masks) v) 0 represents (act-walls R S lower v)
             (sym (none .standing lower (S .masks) v));
       }

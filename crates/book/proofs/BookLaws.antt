@@ -17,7 +17,8 @@ use Rattle.book.specs.Layout.{slots, values, idle, rowCount, masksOffset
 use Rattle.book.specs.Refusal.{_orElse_, within, outOfRange, misplaced, headerFault, maskFault, rowFault, refusal, GoodBook}
 use Rattle.book.specs.GoodFacts.{HeaderFacts, MaskFacts, RowFacts, GoodFacts}
 use Rattle.book.proofs.LayoutLaws.{length-rowsPart}
-use Rattle.book.proofs.RefusalLaws.{none-of-or, both-of-and, fault-none, orElse-none, none-of-orElse, first-none, none-first, maskFaultAt, maskFaults, rowFaultAt, rowFaults}
+use Rattle.book.proofs.RefusalLaws.{none-of-or, both-of-and, fault-none, orElse-none, none-of-orElse, first-none, none-first}
+use Rattle.book.proofs.RefusalLaws.{maskFaultAt, maskFaults, rowFaultAt, rowFaults}
 
 -- ---- HeaderFacts
 range-facts : (most x : ℕ) → not (within most x) ≡ false → (1 ≤ x) × (x ≤ most)

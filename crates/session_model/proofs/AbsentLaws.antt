@@ -68,8 +68,8 @@ module _ (b : List ℕ) (limit : ℕ) (M : List ℕ) (settles : settledBook b �
       step-kept (rulesOf b limit) (boundsOf b (view L U)) (closed-adequate b limit M settles L U closes) (masks b) ledger S (decide d)
       (live-kept b limit M settles L U closes before)
       in
-      subst (λ (r : Reply). LargestUnder (boundsOf b (view L U)) (masks b) (follow ledger (decide d) r .force) (step (rulesOf b limit) S (decide d) .0 .masks)) is
-      (kept .force)
+      let after = step (rulesOf b limit) S (decide d) .0 .masks in
+      subst (λ (r : Reply). LargestUnder (boundsOf b (view L U)) (masks b) (follow ledger (decide d) r .force) after) is (kept .force)
 
   module _ (s v : ℕ) (lacks : LacksAt (stateAfter b limit before .masks) s v) where
     pub absent-assign-dead : (Refused (step (rulesOf b limit) (stateAfter b limit before) (decide (assign s v)) .1) → ⊥)

@@ -116,12 +116,16 @@ worked : (says m8 256 wallCalls ≡ (2 ∷ 1 ∷ 2 ∷ 0 ∷ 3 ∷ 0 ∷ 0 ∷ 2
     × (says m8 1 refusedCalls ≡ (refusedWords, 1 ∷ 3 ∷ 3 ∷ []))
     × (says tooMany 256 shutCalls ≡ (2 ∷ 0 ∷ 271 ∷ 0 ∷ 270 ∷ 0 ∷ 2 ∷ 0 ∷ 271 ∷ 0 ∷ 269 ∷ 0 ∷ [], 0 ∷ 0 ∷ []))
     × (says laterSpent 256 (6 ∷ 0 ∷ 0 ∷ 0 ∷ []) ≡ (2 ∷ 0 ∷ [], 2 ∷ 2 ∷ 1 ∷ 1 ∷ []))
-unfolding bind Option·elim ones news newsTotal testBit clearBit count only listOf others lowOf highOf startLowers startUppers newLower newUpper stepLowers stepUppers crossed same closingWithin listSum closing lineBounds tableBounds fixTo strikeUnfixed mapBefore cutIf cutLow cutHigh pass passes fixpoint noneEmpty noneBroken settling standsAt keepOnly cut callOf wordsOf first refusal decided restored act stepBy step runs opened run
+unfolding bind Option·elim ones news newsTotal testBit clearBit count only listOf others lowOf highOf startLowers startUppers newLower newUpper
+    stepLowers stepUppers crossed same closingWithin listSum closing lineBounds tableBounds fixTo strikeUnfixed mapBefore cutIf cutLow cutHigh pass
+    passes fixpoint noneEmpty noneBroken settling standsAt keepOnly cut callOf wordsOf first refusal decided restored act stepBy step runs opened run
 worked = (refl, refl, refl, refl)
 
 -- ---- a dead opening
 tooMany-dies : settledBook tooMany ≡ none
-unfolding bind testBit clearBit count only listOf others lowOf highOf startLowers startUppers newLower newUpper stepLowers stepUppers crossed same closingWithin listSum closing lineBounds tableBounds fixTo strikeUnfixed mapBefore cutIf cutLow cutHigh pass passes fixpoint noneEmpty noneBroken settling settledBook
+unfolding bind testBit clearBit count only listOf others lowOf highOf startLowers startUppers newLower newUpper stepLowers stepUppers crossed same
+    closingWithin listSum closing lineBounds tableBounds fixTo strikeUnfixed mapBefore cutIf cutLow cutHigh pass passes fixpoint noneEmpty noneBroken
+    settling settledBook
 tooMany-dies = refl
 
 tooMany-dead-opening : (calls : List Call) → DeadOpening tooMany 256 calls
