@@ -2,11 +2,11 @@
 // contracts cite kept_model's `specs/Memory.antt`, `specs/Kept.antt` and `specs/Entries.antt`.
 mod calling; // calling.rt: one call
 mod numbers; // numbers.rt: a session in numbers
-mod opening; // opening.rt: the opening
+mod open_in; // open_in.rt: the opening
 mod steps; // steps.rt: a list of calls
 
 pub use calling::call;
-pub use opening::open;
+pub use open_in::open;
 pub use steps::step;
 
 // The two words of the answer to a call.

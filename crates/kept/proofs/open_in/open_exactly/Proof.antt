@@ -1,12 +1,12 @@
--- `kept::opening::open_exactly` meets its contract: the arrays have room for every book (`ready-openable`), and the answer is that of the opening
+-- `kept::open_in::open_exactly` meets its contract: the arrays have room for every book (`ready-openable`), and the answer is that of the opening
 -- (`opened-shut`, `opened-live`). Assumes nothing.
 use mathlib.Core.List.{[]}
 use native.Mathlib.Nat.{le-refl}
 use Rattle.acts.proofs.RepresentsLaws.{represents-idle}
 use Rattle.kept_model.proofs.EntriesLaws.{ready-openable, opened-shut, opened-live}
 use borrow.Author.Needs.{needs}
-use Rattle.kept.proofs.opening.open_exactly.Statement.{statement}
-use Rattle.kept.proofs.opening.open_exactly.Tie as tie
+use Rattle.kept.proofs.open_in.open_exactly.Statement.{statement}
+use Rattle.kept.proofs.open_in.open_exactly.Tie as tie
 
 slice-aggregate-open-session : tie.Need-slice-aggregate-open-session
 slice-aggregate-open-session c = search needs

@@ -1,4 +1,4 @@
--- `kept::opening::open` meets its contract: refused before anything is lent on (`open-refused`), else the front of the masks goes to `open_exactly` and
+-- `kept::open_in::open` meets its contract: refused before anything is lent on (`open-refused`), else the front of the masks goes to `open_exactly` and
 -- comes back written (`open-done`, closing's `overlay-front`). Assumes nothing.
 use mathlib.Core.Path.{sym, _∙_}
 use Prim.Native.Nat.{_≤_}
@@ -8,8 +8,8 @@ use Rattle.closing.proofs.CloseLaws.{overlay-front}
 use Rattle.kept_model.specs.Memory.{memory}
 use Rattle.kept_model.proofs.EntriesLaws.{openFault-facts, slots-inside, open-ready, open-refused, open-unrefused, open-done}
 use borrow.Author.Needs.{needs}
-use Rattle.kept.proofs.opening.open.Statement.{statement}
-use Rattle.kept.proofs.opening.open.Tie as tie
+use Rattle.kept.proofs.open_in.open.Statement.{statement}
+use Rattle.kept.proofs.open_in.open.Tie as tie
 
 sized-requires : tie.Need-sized-requires
 sized-requires c κs = search needs

@@ -1,8 +1,8 @@
--- `kept::opening::sized` meets its contract: one length after the other (`sizes-masks` .. `sizes-numbers`). Assumes nothing.
+-- `kept::open_in::sized` meets its contract: one length after the other (`sizes-masks` .. `sizes-numbers`). Assumes nothing.
 use mathlib.Core.Path.{sym}
 use Rattle.kept_model.proofs.MemoryLaws.{sizes-masks, sizes-cells, sizes-trail, sizes-heights, sizes-numbers}
-use Rattle.kept.proofs.opening.sized.Statement.{statement}
-use Rattle.kept.proofs.opening.sized.Tie as tie
+use Rattle.kept.proofs.open_in.sized.Statement.{statement}
+use Rattle.kept.proofs.open_in.sized.Tie as tie
 
 returns : tie.Need-returns
 returns c = sym (sizes-masks _ _ _ _ _ (c .if1 .taken))

@@ -1,4 +1,4 @@
--- `kept::opening::fault` meets its contract: the reader's number where it is not 0, else 9 where a size is another (`openFault-book`, `openFault-fits`).
+-- `kept::open_in::fault` meets its contract: the reader's number where it is not 0, else 9 where a size is another (`openFault-book`, `openFault-fits`).
 -- Assumes nothing.
 use mathlib.Core.Path.{sym, ap, _∙_}
 use mathlib.Core.Bool.{not}
@@ -8,8 +8,8 @@ use Rattle.book.proofs.RefusalLaws.{refusal-le-8}
 use Rattle.entries_model.specs.Entries.{fullLimits}
 use Rattle.kept_model.proofs.EntriesLaws.{openFault-book, openFault-fits}
 use borrow.Author.Needs.{needs}
-use Rattle.kept.proofs.opening.fault.Statement.{statement}
-use Rattle.kept.proofs.opening.fault.Tie as tie
+use Rattle.kept.proofs.open_in.fault.Statement.{statement}
+use Rattle.kept.proofs.open_in.fault.Tie as tie
 
 read-requires : tie.Need-read-requires
 read-requires c κs = search needs
