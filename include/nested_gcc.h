@@ -68,10 +68,10 @@ extern "C" {
 
 /* The version of this header: major, when a signature changes, or what a good input was answered; minor, when an
  * entry is added, or what was refused is accepted or refused by another number; patch else. CHANGELOG.md tells them. */
-#define NESTED_GCC_VERSION "1.3.0"
+#define NESTED_GCC_VERSION "1.3.1"
 #define NESTED_GCC_VERSION_MAJOR 1u
 #define NESTED_GCC_VERSION_MINOR 3u
-#define NESTED_GCC_VERSION_PATCH 0u
+#define NESTED_GCC_VERSION_PATCH 1u
 #define NESTED_GCC_VERSION_NUMBER \
     (NESTED_GCC_VERSION_MAJOR * 65536u + NESTED_GCC_VERSION_MINOR * 256u + NESTED_GCC_VERSION_PATCH)
 

@@ -5,11 +5,14 @@ use column_rules::Sweep;
 use columns::columns;
 use line_tests::crosses;
 use lines::line;
-use stores::crossed;
+use stores::lesser;
 ghost use mathlib.Core.Path.{_≡_};
 ghost use Rattle.closing_model.specs.Closing.{closing};
 ghost use Rattle.column_rules.specs.Answer.{Fits};
 ghost use Rattle.bounds.specs.Answer.{answered};
+
+// How many prefixes of a line are tested by one branch.
+const PREFIXES_AT_ONCE: usize = 64;
 
 // Closes the table in place: true, and the loosest closed table within it stands in the slices, or false where none lies within (document
 // 01: dead).
@@ -25,14 +28,13 @@ pub fn close_table(lowers: &mut [u16], uppers: &mut [u16], n: usize, k: usize) -
             if line(lowers, uppers, base, n) {
                 changed = true;
             }
-            if crosses(lowers, uppers, base, n) {
-                let mut t = 0;
-                while t <= n {
-                    if crossed(lowers, uppers, base + t) {
-                        break 'sweeps;
-                    }
-                    t += 1;
+            let mut t = 0;
+            while t <= n {
+                let m = lesser(n + 1 - t, PREFIXES_AT_ONCE);
+                if crosses(lowers, uppers, base + t, m) {
+                    break 'sweeps;
                 }
+                t += m;
             }
             base += n + 1;
             v += 1;

@@ -1,5 +1,7 @@
 pub mod AcrossLaws
 pub mod ClosingLaws
+pub mod EitherLaws
+pub mod LineAlone
 pub mod LineLaws
 pub mod PlaceLaws
 pub mod RanLaws

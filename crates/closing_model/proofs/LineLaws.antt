@@ -5,39 +5,47 @@
 use mathlib.Core.Path.{_≡_, refl, _∙_}
 use mathlib.Core.Bool.{Bool, true, false, _||_}
 use mathlib.Core.List.{List}
-use Prim.Native.Nat.{ℕ, _+_, _-_, _≤_, _<_, zero-le, max}
+use Prim.Native.Nat.{ℕ, _+_, _-_, _≤_, _<_, zero-le}
 use native.Mathlib.Nat.{le-refl, le-trans, add-zero}
 use native.Mathlib.Decide.{ℕ-discrete}
 use native.Mathlib.Omega.{arith}
+use lib.Bits.{bitOr}
 use lib.Dec.{ltb}
 use lib.ListN.{length, getD}
 use borrow.Author.Count.{below-more}
 use borrow.Author.Tests.{ltb-false}
 use Rattle.closing_model.specs.Table.{Table, view}
 use Rattle.closing_model.specs.Sweep.{Fwd, Bwd, Fwds, Bwds, Stairs, Decides, Line, raised, lowered, Stored, Ran, Did, Passed}
+use Rattle.closing_model.proofs.EitherLaws.{either-gathers, either-one}
 use Rattle.closing_model.proofs.SweptLaws.{raise-swept, lower-swept, swept-trans}
 use Rattle.closing_model.proofs.RanLaws.{or-false, ran-of, ran-none, ran-more, ran-weaken}
 
 -- ---- one pair of a line
 module _ (L U : List ℕ) (p : ℕ) (insideL : p + 1 < length L) (insideU : p + 1 < length U) where
   forward-did : getD L p 0 < 65536
-      → Did (p + 2) (Fwd p) L U (raised L (p + 1) (getD L p 0)) (lowered U (p + 1) (getD U p 0 + 1)) (ltb (getD L (p + 1) 0) (getD L p 0) || ltb (getD U p 0 + 1) (getD U (p + 1) 0))
+      → Did (p + 2) (Fwd p) L U (raised L (p + 1) (getD L p 0)) (lowered U (p + 1) (getD U p 0 + 1))
+      (ltb (getD L (p + 1) 0) (getD L p 0) || ltb (getD U p 0 + 1) (getD U (p + 1) 0))
   forward-did fits =
       ran-of
       (λ m edge≤m.
       swept-trans (raise-swept m (Fwd p) L U (p + 1) (getD L p 0) insideL fits (λ T rules within. le-trans (within .lowers p (omega arith)) (rules .lower)))
-      (lower-swept m (Fwd p) (raised L (p + 1) (getD L p 0)) U (p + 1) (getD U p 0 + 1) insideU (λ T rules within. omega (arith, within .uppers p (omega arith), rules .upper))))
+      (lower-swept m (Fwd p) (raised L (p + 1) (getD L p 0)) U (p + 1) (getD U p 0 + 1) insideU
+      (λ T rules within. omega (arith, within .uppers p (omega arith), rules .upper))))
       (λ none.
       let each = or-false (ltb (getD L (p + 1) 0) (getD L p 0)) (ltb (getD U p 0 + 1) (getD U (p + 1) 0)) none in
       rw (each .0, each .1) (record { lower = ltb-false _ _ (each .0); upper = ltb-false _ _ (each .1) }))
 
   backward-did : getD L (p + 1) 0 - 1 < 65536
-      → Did (p + 2) (Bwd p) L U (raised L p (getD L (p + 1) 0 - 1)) (lowered U p (getD U (p + 1) 0)) (ltb (getD L p 0) (getD L (p + 1) 0 - 1) || ltb (getD U (p + 1) 0) (getD U p 0))
+      → Did (p + 2) (Bwd p) L U (raised L p (getD L (p + 1) 0 - 1)) (lowered U p (getD U (p + 1) 0))
+      (ltb (getD L p 0) (getD L (p + 1) 0 - 1) || ltb (getD U (p + 1) 0) (getD U p 0))
   backward-did fits =
       ran-of
       (λ m edge≤m.
-      swept-trans (raise-swept m (Bwd p) L U p (getD L (p + 1) 0 - 1) (omega arith) fits (λ T rules within. omega (arith, within .lowers (p + 1) (omega arith), rules .lower)))
-      (lower-swept m (Bwd p) (raised L p (getD L (p + 1) 0 - 1)) U p (getD U (p + 1) 0) (omega arith) (λ T rules within. le-trans (rules .upper) (within .uppers (p + 1) (omega arith)))))
+      swept-trans
+      (raise-swept m (Bwd p) L U p (getD L (p + 1) 0 - 1) (omega arith) fits
+      (λ T rules within. omega (arith, within .lowers (p + 1) (omega arith), rules .lower)))
+      (lower-swept m (Bwd p) (raised L p (getD L (p + 1) 0 - 1)) U p (getD U (p + 1) 0) (omega arith)
+      (λ T rules within. le-trans (rules .upper) (within .uppers (p + 1) (omega arith)))))
       (λ none.
       let each = or-false (ltb (getD L p 0) (getD L (p + 1) 0 - 1)) (ltb (getD U (p + 1) 0) (getD U p 0)) none in
       rw (each .0, each .1) (record { lower = omega (arith, ltb-false (getD L p 0) (getD L (p + 1) 0 - 1) (each .0)); upper = ltb-false _ _ (each .1) }))
@@ -53,7 +61,7 @@ module _ (L U : List ℕ) (p : ℕ) (insideL : p + 1 < length L) (insideU : p + 
       rw (stored .flag, stored .lowers, stored .uppers, d-is, a-is, b-is) (backward-did (let fits′ = rw a-is at fits in omega arith))
 
 -- ---- stairs
--- the first t pairs rise by at most rise and fall by at most fall, and no more than stairs where they are stairs
+-- the first t pairs rise by at most rise and fall by at most fall, and these are at most 1 and 0 where the pairs are stairs
 pub record StairsInv (f : ℕ → ℕ) (base n rise fall t : ℕ) : Type 0 where
   pub upto : t ≤ n
   pub rises : (i : ℕ) → i < t → f (base + i + 1) ≤ f (base + i) + rise
@@ -65,16 +73,18 @@ stairs-start f base n =
     record { upto = omega arith; rises = λ i i<0. absurd (omega arith); falls = λ i i<0. absurd (omega arith); exact = λ stairs. (omega arith, omega arith) }
 
 pub stairs-more : (f : ℕ → ℕ) {base n rise fall t a b d e rise′ fall′ : ℕ} → StairsInv f base n rise fall t → t < n → a ≡ f (base + t) → b ≡ f (base + t + 1)
-    → d ≡ b - a → rise′ ≡ max rise d → e ≡ a - b → fall′ ≡ max fall e → StairsInv f base n rise′ fall′ (t + 1)
-stairs-more f {base} {rise = rise} {fall = fall} {t = t} {rise′ = rise′} {fall′ = fall′} inv t<n a-is b-is d-is rise-is e-is fall-is =
+    → d ≡ b - a → rise′ ≡ bitOr rise d → e ≡ a - b → fall′ ≡ bitOr fall e → StairsInv f base n rise′ fall′ (t + 1)
+stairs-more f {base} {rise = rise} {fall = fall} {t = t} {d = d} {e = e} {rise′ = rise′} {fall′ = fall′} inv t<n a-is b-is d-is rise-is e-is fall-is =
+    let rises = either-gathers rise d rise-is in
+    let falls = either-gathers fall e fall-is in
     record {
       upto = omega arith;
-      rises = below-more (λ i. f (base + i + 1) ≤ f (base + i) + rise′) t (λ i i<t. omega (arith, inv .rises i i<t)) (omega arith);
-      falls = below-more (λ i. f (base + i) ≤ f (base + i + 1) + fall′) t (λ i i<t. omega (arith, inv .falls i i<t)) (omega arith);
+      rises = below-more (λ i. f (base + i + 1) ≤ f (base + i) + rise′) t (λ i i<t. omega (arith, inv .rises i i<t, rises)) (omega (arith, rises));
+      falls = below-more (λ i. f (base + i) ≤ f (base + i + 1) + fall′) t (λ i i<t. omega (arith, inv .falls i i<t, falls)) (omega (arith, falls));
       exact = λ stairs.
           let before = inv .exact (λ i i<t. stairs i (omega arith)) in
           let last = stairs t (omega arith) in
-          (omega (arith, before .0, last .slowly), omega (arith, before .1, last .grows));
+          (either-one rise d rise-is (before .0) (omega (arith, last .slowly)), omega (arith, before .1, last .grows, falls));
     }
 
 module _ (f : ℕ → ℕ) {base n rise fall t : ℕ} (n≤t : n ≤ t) (inv : StairsInv f base n rise fall t) where
@@ -140,12 +150,13 @@ forward-start base n L U lower lower-fits upper upper-fits =
       sizeU = refl;
     }
 
-pub forward-more : {base n : ℕ} {L₀ U₀ L U L′ U′ : List ℕ} {a b t a′ b′ : ℕ} → ForwardInv base n L₀ U₀ L U a b t → t < n → base + n < length L₀ → base + n < length U₀
-    → L′ ≡ raised L (base + t + 1) a → U′ ≡ lowered U (base + t + 1) (b + 1)
+pub forward-more : {base n : ℕ} {L₀ U₀ L U L′ U′ : List ℕ} {a b t a′ b′ : ℕ} → ForwardInv base n L₀ U₀ L U a b t → t < n
+    → base + n < length L₀ → base + n < length U₀ → L′ ≡ raised L (base + t + 1) a → U′ ≡ lowered U (base + t + 1) (b + 1)
     → a′ ≡ getD L′ (base + t + 1) 0 → a′ < 65536 → b′ ≡ getD U′ (base + t + 1) 0 → b′ < 65536 → ForwardInv base n L₀ U₀ L′ U′ a′ b′ (t + 1)
 forward-more {base} {n} {L} {U} {L′} {U′} {a} {b} {t} {a′} {b′} inv t<n longL longU raised-is lowered-is lower lower-fits upper upper-fits =
     let next : base + t + 1 ≡ base + (t + 1) = omega arith in
-    let stored : Stored L U L′ U′ (base + t + 1) a (b + 1) (ltb (getD L (base + t + 1) 0) a || ltb (b + 1) (getD U (base + t + 1) 0)) = record { lowers = raised-is; uppers = lowered-is; flag = refl } in
+    let stored : Stored L U L′ U′ (base + t + 1) a (b + 1) (ltb (getD L (base + t + 1) 0) a || ltb (b + 1) (getD U (base + t + 1) 0)) =
+    record { lowers = raised-is; uppers = lowered-is; flag = refl } in
     let made = forward-made L U (base + t) (omega (arith, inv .sizeL)) (omega (arith, inv .sizeU)) (inv .lower) (inv .lower-fits) (inv .upper) stored in
     record {
       upto = omega arith;
@@ -194,20 +205,25 @@ from-more C n t 0<t later first i t-1≤i i<n = go (ℕ-discrete i (t - 1))
     go (yes e) = rw e first
     go (no ne) = later i (omega arith) i<n
 
-pub backward-more : {base n : ℕ} {L₀ U₀ L U L′ U′ : List ℕ} {a b t d a′ b′ : ℕ} → BackwardInv base n L₀ U₀ L U a b t → 0 < t → base + n < length L₀ → base + n < length U₀
-    → d ≡ a - 1 → L′ ≡ raised L (base + (t - 1)) d → U′ ≡ lowered U (base + (t - 1)) b
+pub backward-more : {base n : ℕ} {L₀ U₀ L U L′ U′ : List ℕ} {a b t d a′ b′ : ℕ} → BackwardInv base n L₀ U₀ L U a b t → 0 < t
+    → base + n < length L₀ → base + n < length U₀ → d ≡ a - 1 → L′ ≡ raised L (base + (t - 1)) d → U′ ≡ lowered U (base + (t - 1)) b
     → a′ ≡ getD L′ (base + (t - 1)) 0 → a′ < 65536 → b′ ≡ getD U′ (base + (t - 1)) 0 → BackwardInv base n L₀ U₀ L′ U′ a′ b′ (t - 1)
 backward-more {base} {n} {L} {U} {L′} {U′} {a} {b} {t} {d} inv 0<t longL longU d-is raised-is lowered-is lower lower-fits upper =
     let here : base + t ≡ base + (t - 1) + 1 = omega arith in
-    let stored : Stored L U L′ U′ (base + (t - 1)) d b (ltb (getD L (base + (t - 1)) 0) d || ltb b (getD U (base + (t - 1)) 0)) = record { lowers = raised-is; uppers = lowered-is; flag = refl } in
-    let made = backward-made L U (base + (t - 1)) (omega (arith, inv .sizeL, inv .upto)) (omega (arith, inv .sizeU, inv .upto)) (rw here at (inv .lower)) (inv .lower-fits) (rw here at (inv .upper)) d-is stored in
+    let stored : Stored L U L′ U′ (base + (t - 1)) d b (ltb (getD L (base + (t - 1)) 0) d || ltb b (getD U (base + (t - 1)) 0)) =
+    record { lowers = raised-is; uppers = lowered-is; flag = refl } in
+    let made =
+    backward-made L U (base + (t - 1)) (omega (arith, inv .sizeL, inv .upto)) (omega (arith, inv .sizeU, inv .upto)) (rw here at (inv .lower))
+    (inv .lower-fits) (rw here at (inv .upper)) d-is stored in
     record {
       upto = omega (arith, inv .upto);
       lower = lower;
       lower-fits = lower-fits;
       upper = upper;
       stored = inv .stored || (ltb (getD L (base + (t - 1)) 0) d || ltb b (getD U (base + (t - 1)) 0));
-      ran = ran-more (inv .ran) made (omega (arith, inv .upto)) (λ T rules. rules (t - 1) zero-le (omega (arith, inv .upto))) (λ T later rule. from-more (λ i. Bwd (base + i) T) n t 0<t later rule) refl;
+      ran =
+          ran-more (inv .ran) made (omega (arith, inv .upto)) (λ T rules. rules (t - 1) zero-le (omega (arith, inv .upto)))
+          (λ T later rule. from-more (λ i. Bwd (base + i) T) n t 0<t later rule) refl;
       sizeL = made .sizeL ∙ inv .sizeL;
       sizeU = made .sizeU ∙ inv .sizeU;
     }

@@ -3,15 +3,15 @@
 -- `sweeps-crossed`, `sweeps-none`: a crossed entry, as the code finds it on a line or across the values.
 -- Assumes nothing.
 use mathlib.Core.Path.{_≡_, refl, _∙_}
-use mathlib.Core.Bool.{Bool, true, false, _||_}
+use mathlib.Core.Bool.{Bool, false, _||_}
 use mathlib.Core.List.{List}
-use Prim.Native.Nat.{ℕ, _+_, _*_, _≤_, _<_}
+use mathlib.Core.Logic.{dite}
+use Prim.Native.Nat.{ℕ, _+_, _-_, _*_, _≤_, _<_}
+use native.Mathlib.Decide.{decLt}
 use native.Mathlib.Nat.{le-refl}
 use native.Mathlib.Omega.{arith}
-use lib.Dec.{ltb}
 use lib.ListN.{length, getD}
 use borrow.Author.Count.{below-more}
-use borrow.Author.Tests.{ltb-true, ltb-false}
 use Rattle.closing_model.specs.Table.{Table, view, size, Within, Loosest, NoneClosed}
 use Rattle.closing_model.specs.Sweep.{Line, Columns, ClosedBySums, Narrows, Ran, Did}
 use Rattle.closing_model.proofs.PlaceLaws.{line-below}
@@ -24,9 +24,13 @@ use Rattle.closing_model.proofs.RanLaws.{ran-none, ran-more}
 abbrev pub Uncrossed : ℕ → ℕ → Table → Type 0
 Uncrossed base e T = (t : ℕ) → t < e → T .lower (base + t) ≤ T .upper (base + t)
 
-pub uncrossed-more : (base t : ℕ) (T : Table) → Uncrossed base t T → ltb (T .upper (base + t)) (T .lower (base + t)) ≡ false
-    → Uncrossed base (t + 1) T
-uncrossed-more base t T upto test = below-more (λ i. T .lower (base + i) ≤ T .upper (base + i)) t upto (ltb-false _ _ test)
+-- and at the next m
+pub uncrossed-more : (base t m : ℕ) (T : Table) → Uncrossed base t T → Uncrossed (base + t) m T → Uncrossed base (t + m) T
+uncrossed-more base t m T upto more i i<t+m =
+    dite (decLt i t) (upto i)
+    (λ beyond.
+    let there : base + t + (i - t) ≡ base + i = omega arith in
+    rw there at (more (i - t) (omega arith)))
 
 pub record LineKept (n v : ℕ) (T : Table) : Type 0 where
   pub line : Line (v * (n + 1)) n T
@@ -64,8 +68,8 @@ module _ {n k v base : ℕ} {L U L′ U′ L″ U″ : List ℕ} {r s : Bool} (v
   -- the tables as that loop has them after its call of line
   lines-narrow : Narrows (size n k) (ClosedBySums n k) (view L U) (view L″ U″)
   lines-narrow =
-      ran-more {Q′ = λ T. Lines n v T} (inv .ran) (rw (inv .at) at did) (omega (arith, line-below v k (n + 1) v<k)) (λ T closed. closed .along v v<k) (λ T lines line. lines) refl
-      .swept (size n k) (le-refl _) .narrows
+      ran-more {Q′ = λ T. Lines n v T} (inv .ran) (rw (inv .at) at did) (omega (arith, line-below v k (n + 1) v<k)) (λ T closed. closed .along v v<k)
+      (λ T lines line. lines) refl .swept (size n k) (le-refl _) .narrows
 
 -- ---- the sweeps
 pub record SweepsInv (n k : ℕ) (L₀ U₀ L U : List ℕ) : Type 0 where
@@ -89,16 +93,20 @@ sweep-ran {n} {k} {v} k≤v inv did flag =
 module _ {n k : ℕ} {L₀ U₀ L U : List ℕ} (inv : SweepsInv n k L₀ U₀ L U) where
   pub sweeps-turn : {L′ U′ : List ℕ} {r : Bool} → Did (size n k) (ClosedBySums n k) L U L′ U′ r → SweepsInv n k L₀ U₀ L′ U′
   sweeps-turn did =
-      record { sizeL = did .sizeL ∙ inv .sizeL; sizeU = did .sizeU ∙ inv .sizeU; narrows = narrows-trans (inv .narrows) (did .swept (size n k) (le-refl _) .narrows) }
+      record {
+        sizeL = did .sizeL ∙ inv .sizeL;
+        sizeU = did .sizeU ∙ inv .sizeU;
+        narrows = narrows-trans (inv .narrows) (did .swept (size n k) (le-refl _) .narrows);
+      }
 
   pub sweeps-loosest : {L′ U′ : List ℕ} {r : Bool} → Did (size n k) (ClosedBySums n k) L U L′ U′ r → r ≡ false → Loosest n k (view L₀ U₀) (view L′ U′)
   sweeps-loosest did none = narrows-loosest n k _ _ (sweeps-turn did .narrows) (did .rules none)
 
-  -- the test finds the lower above the upper at prefix t of the line at base
+  -- the lower is above the upper at prefix t of the line at base
   pub sweeps-crossed : {v base : ℕ} (t : ℕ) {L′ U′ L″ U″ : List ℕ} {r s : Bool} → v < k → t ≤ n → LinesInv n k L U L′ U′ r v base
-      → Did (base + n + 1) (Line base n) L′ U′ L″ U″ s → ltb (getD U″ (base + t) 0) (getD L″ (base + t) 0) ≡ true → NoneClosed n k (view L₀ U₀)
-  sweeps-crossed {v} t {L″ = L″} {U″} v<k t≤n lines did test =
-      crossed-none n k _ (view L″ U″) (narrows-trans (inv .narrows) (lines-narrow v<k lines did)) v t v<k t≤n (ltb-true _ _ (rw (lines .at) at test))
+      → Did (base + n + 1) (Line base n) L′ U′ L″ U″ s → getD U″ (base + t) 0 < getD L″ (base + t) 0 → NoneClosed n k (view L₀ U₀)
+  sweeps-crossed {v} t {L″ = L″} {U″} v<k t≤n lines did crossed =
+      crossed-none n k _ (view L″ U″) (narrows-trans (inv .narrows) (lines-narrow v<k lines did)) v t v<k t≤n (rw (lines .at) at crossed)
 
   -- no table with the rules across the values lies within what the lines left
   pub sweeps-none : {v base : ℕ} {L′ U′ : List ℕ} {r : Bool} → LinesInv n k L U L′ U′ r v base

@@ -1,5 +1,6 @@
 // Eight numbers of 16 bits side by side, each in a field of its own: a loop on them takes all eight at once. Nothing is refused here.
 // The contracts cite `specs/Lanes.antt`.
+use stores::either16;
 use stores::entry;
 use stores::less16;
 ghost use mathlib.Core.Path.{_≡_};
@@ -117,32 +118,13 @@ pub fn less(a: Eight, b: Eight) -> Eight
     }
 }
 
-// Whether one of them is not 0.
+// Whether one of them is not 0, by the bits of all of them.
 pub fn any(e: Eight) -> bool
     ensures { λ r. ⌜ r ≡ ltb 0 (total e) ⌝ }
 {
-    if 0 < e.e0 {
-        return true;
-    }
-    if 0 < e.e1 {
-        return true;
-    }
-    if 0 < e.e2 {
-        return true;
-    }
-    if 0 < e.e3 {
-        return true;
-    }
-    if 0 < e.e4 {
-        return true;
-    }
-    if 0 < e.e5 {
-        return true;
-    }
-    if 0 < e.e6 {
-        return true;
-    }
-    0 < e.e7
+    let front = either16(either16(e.e0, e.e1), either16(e.e2, e.e3));
+    let back = either16(either16(e.e4, e.e5), either16(e.e6, e.e7));
+    0 < either16(front, back)
 }
 
 fn sum16(x: u16, y: u16) -> u16

@@ -1,17 +1,16 @@
--- Whether an entry of a line is crossed.
---   CrossedIn          an entry of a line whose upper is below its lower
---   CrossAnswer        what `crosses` answers: true, there is one; false, no entry of the line is crossed
+-- Whether one of some entries side by side is crossed.
+--   CrossedIn          an entry among the m from place p on whose upper is below its lower
+--   CrossAnswer        what `crosses` answers: true, there is one; false, none of the m entries is crossed
 -- Assumes nothing.
 use mathlib.Core.Bool.{Bool, true, false}
 use Prim.Native.Nat.{ℕ, _+_, _<_, _≤_}
 use Rattle.closing_model.specs.Table.{Table}
 
--- the line starts at place base and has the prefixes 0 to n
-pub record CrossedIn (base n : ℕ) (T : Table) : Type 0 where
-  pub prefix : ℕ
-  pub inside : prefix ≤ n
-  pub crossed : T .upper (base + prefix) < T .lower (base + prefix)
+pub record CrossedIn (p m : ℕ) (T : Table) : Type 0 where
+  pub offset : ℕ
+  pub inside : offset < m
+  pub crossed : T .upper (p + offset) < T .lower (p + offset)
 
 abbrev pub CrossAnswer : ℕ → ℕ → Table → Bool → Type 0
-CrossAnswer base n T true = CrossedIn base n T
-CrossAnswer base n T false = (t : ℕ) → t < n + 1 → T .lower (base + t) ≤ T .upper (base + t)
+CrossAnswer p m T true = CrossedIn p m T
+CrossAnswer p m T false = (i : ℕ) → i < m → T .lower (p + i) ≤ T .upper (p + i)

@@ -30,8 +30,9 @@ fn backward_pass(lowers: &mut [u16], uppers: &mut [u16], base: usize, n: usize)
     requires { ⌜ (base + n < length (now lowers)) × (base + n < length (now uppers)) ⌝ }
     ensures { λ r. ⌜ Passed (base + n + 1) (Bwds base 0 n) (now (lowers .entry)) (now (uppers .entry)) (now (lowers .exit)) (now (uppers .exit)) ⌝ }
 {
-    let mut a = at(lowers, base + n);
-    let mut b = at(uppers, base + n);
+    let last = base + n;
+    let mut a = at(lowers, last);
+    let mut b = at(uppers, last);
     let mut t = n;
     let mut d = 0;
     while 0 < t {

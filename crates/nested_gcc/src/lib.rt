@@ -17,7 +17,7 @@ const MAJOR: u32 = 1;
 
 const MINOR: u32 = 3;
 
-const PATCH: u32 = 0;
+const PATCH: u32 = 1;
 
 // Whether book is a good book. Writes nothing, and never answers dead.
 #[no_mangle]

@@ -2,7 +2,7 @@
 // specs/Sweep.antt.
 ghost use mathlib.Core.Path.{_≡_};
 ghost use Prim.Native.Nat.{_-_, _<_, min, max};
-ghost use lib.Dec.{ltb};
+ghost use lib.Bits.{bitOr};
 ghost use lib.ListN.{length, getD};
 ghost use Rattle.closing_model.specs.Sweep.{raised, lowered, Stored};
 
@@ -20,14 +20,6 @@ pub fn entry(s: &[u16], p: usize) -> u16
     ensures { λ r. ⌜ r ≡ getD (now (s .entry)) p 0 ⌝ }
 {
     s[p]
-}
-
-// Whether the lower at p is above the upper there.
-pub fn crossed(lowers: &[u16], uppers: &[u16], p: usize) -> bool
-    requires { ⌜ (p < length (now lowers)) × (p < length (now uppers)) ⌝ }
-    ensures { λ r. ⌜ r ≡ ltb (getD (now (uppers .entry)) p 0) (getD (now (lowers .entry)) p 0) ⌝ }
-{
-    uppers[p] < lowers[p]
 }
 
 // x less y, 0 where y is more.
@@ -64,11 +56,11 @@ pub fn less16(x: u16, y: u16) -> u16
     x - y
 }
 
-// The greater of two numbers of 16 bits.
-pub fn greater16(x: u16, y: u16) -> u16
-    ensures { λ r. ⌜ r ≡ max x y ⌝ }
+// The bits of either number: no less than each, 0 where both are, at most 1 where both are.
+pub fn either16(x: u16, y: u16) -> u16
+    ensures { λ r. ⌜ r ≡ bitOr x y ⌝ }
 {
-    if x < y { y } else { x }
+    x | y
 }
 
 // Raises the entry at p to x where it is below, and returns the entry. It stores without a branch.

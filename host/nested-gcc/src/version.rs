@@ -22,7 +22,7 @@ impl fmt::Display for Version {
 /// ```
 /// use nested_gcc::version;
 ///
-/// assert_eq!(version().to_string(), "1.3.0");
+/// assert_eq!(version().to_string(), "1.3.1");
 /// assert_eq!((version().major, version().minor), (1, 3));
 /// ```
 pub fn version() -> Version {

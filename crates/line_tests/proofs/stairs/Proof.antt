@@ -1,5 +1,5 @@
--- `line_tests::stairs` meets its contract. The invariant of its loop, `StairsInv`: rise and fall bound the first t pairs, and are those of
--- stairs where these are stairs. The measure is n less t. `stairs-more` is the turn. Assumes nothing.
+-- `line_tests::stairs` meets its contract. The invariant of its loop, `StairsInv`: rise and fall bound the first t pairs, and are at most 1
+-- and 0 where these are stairs. The measure is n less t. `stairs-more` is the turn. Assumes nothing.
 use Prim.Native.Nat.{_-_}
 use native.Mathlib.Omega.{arith}
 use lib.ListN.{getD}
@@ -43,16 +43,16 @@ less16-requires : tie.Need-less16-requires Inv-loop μ-loop
 less16-requires c κs =
     tt
 
-greater16-requires : tie.Need-greater16-requires Inv-loop μ-loop
-greater16-requires c κs =
+either16-requires : tie.Need-either16-requires Inv-loop μ-loop
+either16-requires c κs =
     tt
 
 less16-requires-2 : tie.Need-less16-requires-2 Inv-loop μ-loop
 less16-requires-2 c κs =
     tt
 
-greater16-requires-2 : tie.Need-greater16-requires-2 Inv-loop μ-loop
-greater16-requires-2 c κs =
+either16-requires-2 : tie.Need-either16-requires-2 Inv-loop μ-loop
+either16-requires-2 c κs =
     tt
 
 add-t : tie.Need-add-t Inv-loop μ-loop
@@ -65,7 +65,10 @@ loop-less c =
 
 loop-again : tie.Need-loop-again Inv-loop μ-loop
 loop-again c =
-    stairs-more _ (c .before .before .before .before .before .before .before .loop .inv) (c .before .before .before .before .before .before .loop-test .taken) (c .before .before .before .before .before .entry .ensures) (c .before .before .before .before .entry2 .ensures) (c .before .before .before .less16 .ensures) (c .before .before .greater16 .ensures) (c .before .less162 .ensures) (c .greater162 .ensures)
+    let read = c .before .before .before .before in
+    let turn = read .before .before in
+    stairs-more _ (turn .before .loop .inv) (turn .loop-test .taken) (read .before .entry .ensures) (read .entry2 .ensures)
+    (c .before .before .before .less16 .ensures) (c .before .before .either16 .ensures) (c .before .less162 .ensures) (c .either162 .ensures)
 
 returns : tie.Need-returns Inv-loop μ-loop
 returns c =
@@ -92,9 +95,9 @@ stairs-spec =
     add-entry-3
     entry-requires-2
     less16-requires
-    greater16-requires
+    either16-requires
     less16-requires-2
-    greater16-requires-2
+    either16-requires-2
     add-t
     loop-less
     loop-again

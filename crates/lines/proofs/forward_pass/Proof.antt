@@ -1,6 +1,6 @@
 -- `lines::forward_pass` meets its contract. The invariant of its loop, `ForwardInv`: a and b are the bounds at t, and the run so far kept
--- the rules of the line, which hold at the first t pairs where nothing was stored. The measure is n less t. `forward-more` is the turn.
--- Assumes nothing.
+-- the rules of the line, which hold at the first t pairs where nothing was stored. The measure is n less t. `forward-more` is the turn: it stands
+-- first, so that a store at another place is refused by the rules of the line before it is by the end of the slice. Assumes nothing.
 use Prim.Native.Nat.{_-_}
 use native.Mathlib.Omega.{arith}
 use Rattle.closing_model.proofs.LineLaws.{ForwardInv, forward-start, forward-more, forward-done}
@@ -14,6 +14,24 @@ Inv-loop lowers₀ uppers₀ base n a₀ b₀ t₀ lowers uppers a b t =
 abbrev μ-loop : tie.MeasureT-loop
 μ-loop lowers₀ uppers₀ base n a₀ b₀ t₀ lowers uppers a b t =
     n - t
+
+-- the call of raise in a turn that ends, the test of that turn, and the start
+abbrev stored : tie.After-slice-known4 Inv-loop μ-loop → tie.After-raise Inv-loop μ-loop
+stored c = c .before .before .before .before .before .before
+
+abbrev tested : tie.After-raise Inv-loop μ-loop → tie.In-loop Inv-loop μ-loop
+tested c = c .before .before
+
+abbrev start : tie.At-loop Inv-loop μ-loop → tie.Start Inv-loop μ-loop
+start c = c .before .before .before .before .before .before .before
+
+loop-again : tie.Need-loop-again Inv-loop μ-loop
+loop-again c =
+    let turn = tested (stored c) in
+    let first = start (turn .before) in
+    forward-more (turn .before .loop .inv) (turn .loop-test .taken) (first .pre .0) (first .pre .1) (stored c .raise .ensures .0)
+    (c .before .before .lower-to .ensures .0) (stored c .raise .ensures .1) (stored c .raise .ensures .2) (c .before .before .lower-to .ensures .1)
+    (c .before .before .lower-to .ensures .2)
 
 at-requires : tie.Need-at-requires Inv-loop μ-loop
 at-requires c κs =
@@ -62,10 +80,6 @@ add-t c =
 loop-less : tie.Need-loop-less Inv-loop μ-loop
 loop-less c =
     omega arith
-
-loop-again : tie.Need-loop-again Inv-loop μ-loop
-loop-again c =
-    forward-more (c .before .before .before .before .before .before .before .before .before .loop .inv) (c .before .before .before .before .before .before .before .before .loop-test .taken) (c .before .before .before .before .before .before .before .before .before .before .before .before .before .before .before .before .pre .0) (c .before .before .before .before .before .before .before .before .before .before .before .before .before .before .before .before .pre .1) (c .before .before .before .before .before .before .raise .ensures .0) (c .before .before .lower-to .ensures .0) (c .before .before .before .before .before .before .raise .ensures .1) (c .before .before .before .before .before .before .raise .ensures .2) (c .before .before .lower-to .ensures .1) (c .before .before .lower-to .ensures .2)
 
 same-length : tie.Need-same-length Inv-loop μ-loop
 same-length c =
