@@ -19,7 +19,7 @@ SEEN = ['closing', 'starting', 'filling', 'bounds', 'lines', 'line_tests', 'band
 ARRAYS = {
     'let mut line = [0u16; 257];': ['[0u16; 257]'],
     'let a = [x, y];': ['[x, y]'],
-    'f(&[x], &mut [0u16; 9])': ['[x]', '[0u16; 9]'],
+    'f(&[x], &[MAX], &mut [0u16; 9])': ['[x]', '[MAX]', '[0u16; 9]'],
     'const WIDE: [usize; 2] = [1, 2];': ['[usize; 2]', '[1, 2]'],
     'pub type Line = [u16; 257];': ['[u16; 257]'],
     'struct S { line: [u16; 257] }': ['[u16; 257]'],
@@ -49,7 +49,7 @@ def arrays(text):
                 break
         before, inside = text[:at], text[at + 1 : end - 1]
         index = re.search(r'[\w)\]?]$', before)
-        slice_type = re.search(r'&(\'\w+ )?(mut )?$', before) and re.fullmatch(r'(bool|[iuf]\d+|[iu]size|[A-Z]\w*)', inside)
+        slice_type = re.search(r'&(\'\w+ )?(mut )?$', before) and re.fullmatch(r'bool|[iuf]\d+|[iu]size|[A-Z]+[a-z]\w*', inside)
         if not index and not slice_type and not before.endswith('#'):
             found.append((at, text[at:end]))
             at = end
