@@ -1,5 +1,5 @@
 /* Buffers of length 0, each passed as NULL. So an empty std::vector may be passed as v.data() and v.size(), whatever its
- * data() is. The book has one slot, two types and no rows; the one call shows slot 0. */
+ * data() is. The book has one slot, two types and no rows; the one call shows slot 0, the one pick is type 1 there. */
 #include "nested_gcc.h"
 #include <stdio.h>
 
@@ -8,6 +8,7 @@ static const uint8_t book[] = {
     3, 0, 0, 0,                             /* mask */
 };
 static const uint8_t call[] = { NESTED_GCC_SHOW, 0, 0, 0 };
+static const uint8_t pick[] = { NESTED_GCC_ASSIGN, 1, 0, 0 };
 static nested_gcc_state state;
 
 static void print(const char *what, uint32_t answer) {
@@ -16,7 +17,7 @@ static void print(const char *what, uint32_t answer) {
 
 int main(void) {
     static const uint8_t text[] = { '1', ',', '2' };
-    uint8_t lowers[8], uppers[8], answers[8], masks[4] = { 0, 0, 0, 0 }, imported[sizeof book];
+    uint8_t lowers[8], uppers[8], answers[8], masks[4] = { 0, 0, 0, 0 }, dead[1], imported[sizeof book];
     print("check, no book", nested_gcc_check(NULL, 0));
     print("close, no book", nested_gcc_close(NULL, 0, lowers, sizeof lowers, uppers, sizeof uppers));
     print("close, no lowers", nested_gcc_close(book, sizeof book, NULL, 0, uppers, sizeof uppers));
@@ -38,6 +39,9 @@ int main(void) {
     print("step, no calls and no answers", nested_gcc_step(&state, NULL, 0, NULL, 0));
     print("step, a call and no answers", nested_gcc_step(&state, call, sizeof call, NULL, 0));
     printf("calls made: %u\n", (unsigned)nested_gcc_calls_made(&state));
+    print("probe, no book", nested_gcc_probe(NULL, 0, pick, sizeof pick, dead, sizeof dead));
+    print("probe, a pick and no output", nested_gcc_probe(book, sizeof book, pick, sizeof pick, NULL, 0));
+    print("probe, no picks and no output", nested_gcc_probe(book, sizeof book, NULL, 0, NULL, 0));
     print("import, no text", nested_gcc_import_csv(NULL, 0, imported, sizeof imported));
     print("import, no text and no book", nested_gcc_import_csv(NULL, 0, NULL, 0));
     print("import, no book", nested_gcc_import_csv(text, sizeof text, NULL, 0));

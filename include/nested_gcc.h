@@ -4,7 +4,7 @@
  *
  * docs/SPECIFICATION.md has the rules in full: 1 Words and numbers, 2 The book, 3 Closing,
  * 4 Settling and plans, 5 The session, 6 Walls, 7 Entries, 8 Refusals, 9 Worked examples, 10 The program planrun,
- * 11 The kept session, 12 The version, 13 The import of CSV.
+ * 11 The kept session, 12 The version, 13 The import of CSV, 14 The probes.
  * docs/ASSUMPTIONS.md lists what a host must keep.
  *
  * nested_gcc_check       whether the bytes are a good book
@@ -14,6 +14,7 @@
  * nested_gcc_open        the same session kept in memory of the host, a nested_gcc_state, for a search: opened once,
  * nested_gcc_step        then stepped by lists of calls,
  * nested_gcc_call        or by single calls, from where the last left it
+ * nested_gcc_probe       which assignments of a list would die, each alone on a settled book
  * nested_gcc_import_csv  the book that orders in CSV say, written to memory of the host
  * nested_gcc_version     the version of the archive
  *
@@ -49,12 +50,12 @@
  * - The comment of each function says how much stack a call needs, from its caller's frame down. That is
  *   measured, not proved, by host/nested-gcc/tests/stack.rs, which fails above the figure named there. A thread's
  *   own start takes some 5 KiB more (glibc). The 128 KiB that some C libraries (musl) give a thread by default
- *   are too few: unless it refuses, nested_gcc_session leaves less than 3 of them, and on some books it and
- *   nested_gcc_settle need about twice as much. A host gives a thread that calls them 6 MiB, which suffices for every
- *   book, or 512 KiB if it knows its books (pthread_attr_setstacksize). A kept session needs less: 36 KiB to open
- *   and 2 to step, and more on some books. On each of 1000 random books it needed at most 66 KiB of a thread's stack,
- *   the thread's start included, and 100 others ran in threads of 128 KiB. The deepest nesting found needs 167.
- *   docs/ASSUMPTIONS.md, "Stack", has the figures in one table.
+ *   are too few: unless it refuses, nested_gcc_session leaves less than 3 of them, and on some books it,
+ *   nested_gcc_settle and nested_gcc_probe need about twice as much. A host gives a thread that calls them 6 MiB,
+ *   which suffices for every book, or 512 KiB if it knows its books (pthread_attr_setstacksize). A kept session needs
+ *   less: 36 KiB to open and 2 to step, and more on some books. On each of 1000 random books it needed at most 66 KiB
+ *   of a thread's stack, the thread's start included, and 100 others ran in threads of 128 KiB. The deepest nesting
+ *   found needs 167. docs/ASSUMPTIONS.md, "Stack", has the figures in one table.
  */
 #ifndef NESTED_GCC_H
 #define NESTED_GCC_H
@@ -68,10 +69,10 @@ extern "C" {
 
 /* The version of this header: major, when a signature changes, or what a good input was answered; minor, when an
  * entry is added, or what was refused is accepted or refused by another number; patch else. CHANGELOG.md tells them. */
-#define NESTED_GCC_VERSION "1.3.1"
+#define NESTED_GCC_VERSION "1.4.0"
 #define NESTED_GCC_VERSION_MAJOR 1u
-#define NESTED_GCC_VERSION_MINOR 3u
-#define NESTED_GCC_VERSION_PATCH 1u
+#define NESTED_GCC_VERSION_MINOR 4u
+#define NESTED_GCC_VERSION_PATCH 0u
 #define NESTED_GCC_VERSION_NUMBER \
     (NESTED_GCC_VERSION_MAJOR * 65536u + NESTED_GCC_VERSION_MINOR * 256u + NESTED_GCC_VERSION_PATCH)
 
@@ -94,8 +95,9 @@ uint32_t nested_gcc_version(void);
 #define NESTED_GCC_LIVE 0u
 #define NESTED_GCC_DEAD 1u
 
-/* A refusal is NESTED_GCC_REFUSED + its number: 1 to 10, 17, 18. The answer is the first that applies in this
- * order: 1 to 4; 5 for the masks by slot; 6, 7, 8 for the first row, then for the next; 10; 9. That of
+/* A refusal is NESTED_GCC_REFUSED + its number: 1 to 10, 17, 18; of nested_gcc_probe also 11, 12, 13, which refuse one
+ * call elsewhere. The answer is the first that applies in this order: 1 to 4; 5 for the masks by slot; 6, 7, 8 for the
+ * first row, then for the next; 10; of nested_gcc_probe 11, 12, 13 for the first call, then for the next; 9. That of
  * nested_gcc_import_csv, which alone has 17 and 18, is: 17, 18 for the first record, then for the next; 2; 6, 7, 8 for
  * the first row, then for the next; 9. A function that refuses writes nothing; only nested_gcc_call puts its two words
  * all the same. */
@@ -235,16 +237,16 @@ uint32_t nested_gcc_settle(const uint8_t *book, size_t book_len, uint8_t *masks,
 #define NESTED_GCC_CALL_DEAD 1u  /* a decision that leaves no stable list; 0 */
 #define NESTED_GCC_CALL_VALUE 2u /* a show or a number of walls; the mask or the number */
 #define NESTED_GCC_CALL_DONE 3u  /* a mark or a back; 0 */
-/* Refusals of the one call; 0. */
-#define NESTED_GCC_CALL_KIND (NESTED_GCC_REFUSED + 11u)      /* kind 0 or from 8 up */
+/* Refusals of the one call; 0. The first three are answers of nested_gcc_probe too, for its whole list. */
+#define NESTED_GCC_CALL_KIND (NESTED_GCC_REFUSED + 11u)      /* kind 0 or from 8 up; of nested_gcc_probe not 1 */
 #define NESTED_GCC_CALL_SLOT (NESTED_GCC_REFUSED + 12u)      /* slot n or more */
 #define NESTED_GCC_CALL_TYPE (NESTED_GCC_REFUSED + 13u)      /* type k or more */
 #define NESTED_GCC_NO_OPEN_MARK (NESTED_GCC_REFUSED + 14u)   /* back with no open mark */
 #define NESTED_GCC_WHILE_DEAD (NESTED_GCC_REFUSED + 15u)     /* kind 1, 2 or 3 while dead */
 #define NESTED_GCC_TOO_MANY_MARKS (NESTED_GCC_REFUSED + 16u) /* mark with NESTED_GCC_MARKS_MOST open */
 
-/* The most bytes of calls that nested_gcc_session and nested_gcc_step take, 4 * 4096, and of answers that they
- * write. */
+/* The most bytes of calls that nested_gcc_session, nested_gcc_step and nested_gcc_probe take, 4 * 4096, and of answers
+ * that the first two write. */
 #define NESTED_GCC_CALLS_BYTES 16384u
 #define NESTED_GCC_ANSWERS_BYTES 32768u
 
@@ -291,6 +293,34 @@ uint32_t nested_gcc_session(const uint8_t *book, size_t book_len,
                             const uint8_t *calls, size_t calls_len,
                             uint8_t *answers, size_t answers_len,
                             uint8_t *masks, size_t masks_len);
+
+/* The most bytes that nested_gcc_probe writes: one for each of 4096 calls. */
+#define NESTED_GCC_PROBES_BYTES 4096u
+
+/*
+ * Says which assignments would die, before one is made. The calls are assigns, 4 bytes each as for nested_gcc_session,
+ * and each is tried by itself on the session as it opens on the book: no call bears on another. For each a byte is
+ * written, that of call i at dead[i].
+ *
+ * On a live book it is 1 if nested_gcc_session answers call i, as the only one of its list, by NESTED_GCC_CALL_DEAD:
+ * no stable list (see nested_gcc_settle) lies within the book's masks with the slot cut to the type. Else it is 0. On a
+ * dead book it is 1. A byte 1 says that no plan has that type in that slot; a byte 0 promises no plan.
+ *
+ * NESTED_GCC_LIVE: the session opens live. Writes a byte for each call.
+ * NESTED_GCC_DEAD: it opens dead. Writes a byte 1 for each call.
+ * Refusals: 1 to 8; then, be the book live or dead, 10 if calls_len is no multiple of 4 or above
+ *     NESTED_GCC_CALLS_BYTES; then for the first call, and so on to the last, 11 if its kind is not NESTED_GCC_ASSIGN,
+ *     12 if its slot is n or more, 13 if its type is k or more; then 9 if dead_len is below the number of calls. A
+ *     refused call refuses the whole list. The output is not touched. A list without calls is good.
+ * Bytes past one a call stay as they are.
+ *
+ * Stack: 93 KiB on a good book, and as for nested_gcc_settle up to 528 bytes for each strike that is nested in another.
+ * The most of 1000 random books of 256 slots with lists of assigns was 119 KiB. The deepest nesting found needs 224 KiB
+ * in all; 320 KiB is what the test holds, and 6 MiB suffices for every book and list.
+ */
+uint32_t nested_gcc_probe(const uint8_t *book, size_t book_len,
+                          const uint8_t *calls, size_t calls_len,
+                          uint8_t *dead, size_t dead_len);
 
 /* The elements of a state's fields, where no other macro names them. */
 #define NESTED_GCC_RECORD_NUMBERS 7u

@@ -5,9 +5,11 @@
  *     compare all-in FOLDER NAME..    against the hand-written engines walls and budget
  *     compare kinds FOLDER NAME..     against walls: what the kinds of calls take
  *     compare search FOLDER NAME..    against walls, and replayed: a search on a kept session
+ *     compare probes FOLDER NAME..    against walls, and sessions of one call: every assignment on a book, tried
  *     compare gecode FOLDER NAME..    against models in Gecode, in the program built with -DGECODE
  *     compare wrong FOLDER NAME..     no table: status 0 if every contender is found to answer other than expected
  *     compare wrong-search FOLDER NAME..    no table: status 0 if each searcher is found out by one damaged answer
+ *     compare wrong-probes FOLDER NAME..    no table: status 0 if each prober is found out by one damaged byte
  *
  * An instance is three files: NAME.book, NAME.calls, and NAME.exp with what is expected: two words a call, then the
  * last masks. A contender that writes anything else ends the program with status 1, and no table is printed. A model
@@ -33,6 +35,15 @@
  *   function that is not inlined. Replayed is the same search where each node is a session of its own, of the decisions in
  *   force; it runs 200 nodes. Before and after the rounds each contender searches once more, and all words of its answers
  *   and all masks after each node are compared with those of `walls`; in the rounds the words are.
+ * - Probes: each type in each slot, slot by slot. The entry takes lists of at most 4096 calls, as bytes, and each list
+ *   opens the book; `walls` opens it once for all, is handed structs, and makes a mark, the assignment and a back for
+ *   each. Sessions: every 17th of the calls, a session for each; 17 shares no factor with the numbers of types, so
+ *   every type has its turns. A figure is the time of a run, its openings included, over the probes that were made.
+ *   What is expected of a probe is what `budget` answers, opened anew for it. Before and after the rounds every byte
+ *   that a contender writes is compared with that.
+ *   Each book is probed fresh, where its masks are full and hardly a probe dies, and half planned: with the masks of a
+ *   state of its script. Of the live states after a decision, with at most half of the slots fixed, it is the first
+ *   where the most probes die though the slot has the type.
  */
 #ifdef GECODE
 #define main gecode_replay_main
@@ -128,15 +139,19 @@ struct Proved : Contender {
     }
 };
 
+template <class Engine> void open_engine(Engine &engine, const Instance &in) {
+    Book book;
+    if (read_book(in.book.data(), in.book.size(), book) || !engine.open(book))
+        fail("%s: %s does not open", in.name.c_str(), Engine::name);
+}
+
 template <class Engine> struct Plain : Contender {
     std::unique_ptr<Engine> engine = std::make_unique<Engine>();
     std::vector<Ans> answers;
     explicit Plain(const Instance &instance) : Contender(instance), answers(in.script.size()) {}
     const char *name() const override { return Engine::name; }
     void run(size_t calls) override {
-        Book book;
-        if (read_book(in.book.data(), in.book.size(), book) || !engine->open(book))
-            fail("%s: %s does not open", in.name.c_str(), name());
+        open_engine(*engine, in);
         run_calls(*engine, in.script.data(), calls, answers.data());
     }
     bool right() override {
@@ -535,11 +550,7 @@ struct Kept {
 
 struct KeptWalls {
     Walls walls;
-    explicit KeptWalls(const Instance &in) {
-        Book book;
-        if (read_book(in.book.data(), in.book.size(), book) || !walls.open(book))
-            fail("%s: walls does not open", in.name.c_str());
-    }
+    explicit KeptWalls(const Instance &in) { open_engine(walls, in); }
     __attribute__((noinline)) Ans call(u8 kind, u8 type, u16 slot) {
         return one_call(walls, Call{ kind, type, slot });
     }
@@ -673,6 +684,216 @@ void find_out_searches(const std::vector<Instance> &instances) {
     }
 }
 
+/* ---- probes ---- */
+
+const size_t PROBES_OF_A_LIST = NESTED_GCC_CALLS_BYTES / 4;
+const size_t PROBES_OF_A_SESSION = 17;
+
+/* How many probes die though the slot has the type. */
+size_t deaths_within_masks(Walls &walls) {
+    size_t deaths = 0;
+    for (int slot = 0; slot < walls.n; slot++) {
+        for (u32 types = walls.mask[slot]; types; types &= types - 1) {
+            walls.mark();
+            deaths += walls.assign(slot, ctz32(types)) < 0;
+            walls.back();
+        }
+    }
+    return deaths;
+}
+
+size_t slots_fixed(const Walls &walls) {
+    return std::count_if(walls.mask, walls.mask + walls.n, [](u32 mask) { return single(mask); });
+}
+
+/* The same book with the masks of a state of its script: see the head of this file. */
+Instance half_planned(const Instance &instance) {
+    Instance planned = instance;
+    auto walls = std::make_unique<Walls>();
+    size_t most = 0;
+    open_engine(*walls, instance);
+    for (Call call : instance.script) {
+        one_call(*walls, call);
+        if (call.kind > REMOVE || walls->dead || walls->open_marks == MAXMARK) continue;
+        if (2 * slots_fixed(*walls) > instance.slots) continue;
+        size_t deaths = deaths_within_masks(*walls);
+        if (deaths <= most) continue;
+        most = deaths;
+        memcpy(&planned.book[12], walls->mask, 4 * instance.slots);
+    }
+    if (most == 0) fail("%s: no state of the script has a probe that dies", instance.name.c_str());
+    return planned;
+}
+
+/* Every assignment on the instance's book, and the byte that is expected of each. */
+Instance probes_of(const Instance &instance) {
+    Instance probes = instance;
+    auto budget = std::make_unique<Budget>();
+    probes.calls.clear();
+    probes.expected.clear();
+    for (size_t slot = 0; slot < probes.slots; slot++) {
+        for (u32 type = 0; type < probes.book[2]; type++)
+            p32(probes.calls, NESTED_GCC_ASSIGN | type << 8 | (u32)slot << 16);
+    }
+    probes.script = read_calls(probes.calls);
+    for (Call call : probes.script) {
+        open_engine(*budget, probes);
+        probes.expected.push_back(one_call(*budget, call).a == NESTED_GCC_CALL_DEAD);
+    }
+    return probes;
+}
+
+/* Makes one of so many probes, and writes a byte for each. */
+struct Prober : Contender {
+    size_t one_of;
+    Bytes dead;
+    Prober(const Instance &probes, size_t some) : Contender(probes), one_of(some), dead(in.script.size()) {}
+    size_t made() const { return (in.script.size() + one_of - 1) / one_of; }
+    bool right() override {
+        std::fill(dead.begin(), dead.end(), 0xa5);
+        run(in.script.size());
+        for (size_t call = 0; call < dead.size(); call += one_of) {
+            if (dead[call] != in.expected[call]) return false;
+        }
+        return true;
+    }
+};
+
+struct ProvedProbes : Prober {
+    explicit ProvedProbes(const Instance &probes) : Prober(probes, 1) {}
+    const char *name() const override { return "probe"; }
+    void run(size_t calls) override {
+        for (size_t at = 0; at < calls; at += PROBES_OF_A_LIST) {
+            size_t count = std::min(PROBES_OF_A_LIST, calls - at);
+            u32 opened = nested_gcc_probe(in.book.data(), in.book.size(), &in.calls[4 * at], 4 * count, &dead[at],
+                                          count);
+            if (opened != NESTED_GCC_LIVE) fail("%s: probe answers %u", in.name.c_str(), opened);
+        }
+    }
+};
+
+struct WallsProbes : Prober {
+    std::unique_ptr<Walls> walls = std::make_unique<Walls>();
+    explicit WallsProbes(const Instance &probes) : Prober(probes, 1) {}
+    const char *name() const override { return Walls::name; }
+    void run(size_t calls) override {
+        Walls &engine = *walls;
+        const Call *script = in.script.data();
+        u8 *to = dead.data();
+        open_engine(engine, in);
+        for (size_t call = 0; call < calls; call++) {
+            engine.mark();
+            to[call] = engine.assign(script[call].slot, script[call].type) < 0;
+            engine.back();
+        }
+    }
+};
+
+struct SessionProbes : Prober {
+    Bytes masks;
+    explicit SessionProbes(const Instance &probes) : Prober(probes, PROBES_OF_A_SESSION), masks(4 * in.slots) {}
+    const char *name() const override { return "a session for each"; }
+    void run(size_t calls) override {
+        u8 words[8];
+        for (size_t call = 0; call < calls; call += one_of) {
+            u32 opened = nested_gcc_session(in.book.data(), in.book.size(), &in.calls[4 * call], 4, words, sizeof words,
+                                            masks.data(), masks.size());
+            if (opened != NESTED_GCC_LIVE) fail("%s: the session answers %u", in.name.c_str(), opened);
+            dead[call] = g32(words) == NESTED_GCC_CALL_DEAD;
+        }
+    }
+};
+
+using Probers = std::vector<std::unique_ptr<Prober>>;
+
+Probers probers_of(const Instance &probes) {
+    Probers probers;
+    probers.push_back(std::make_unique<ProvedProbes>(probes));
+    probers.push_back(std::make_unique<WallsProbes>(probes));
+    probers.push_back(std::make_unique<SessionProbes>(probes));
+    for (auto &prober : probers) check(*prober);
+    return probers;
+}
+
+/* The figures of each prober's rounds, in nanoseconds a probe. */
+std::vector<Times> probe_times(const Instance &probes) {
+    Probers probers = probers_of(probes);
+    std::vector<Times> times(probers.size());
+    std::vector<size_t> runs;
+    size_t calls = probes.script.size();
+    for (auto &prober : probers) runs.push_back(runs_of(*prober, calls));
+    double begin = cpu_ns();
+    for (size_t round = 0; round < ROUNDS || cpu_ns() - begin < ROUNDS_NS; round++) {
+        for (size_t turn = 0; turn < probers.size(); turn++) {
+            size_t at = (round + turn) % probers.size();
+            times[at].push_back(time_of(*probers[at], calls, runs[at]) / probers[at]->made());
+        }
+    }
+    for (auto &prober : probers) check(*prober);
+    return times;
+}
+
+/* The rows of one kind of books, and their ratios. */
+struct ProbeRows {
+    const char *kind;
+    Column walls, sessions;
+    explicit ProbeRows(const char *books) : kind(books) {}
+    void add(Rows &rows, const Instance &instance) {
+        fprintf(stderr, "compare: %s, %s, probes\n", instance.name.c_str(), kind);
+        Instance probes = probes_of(instance);
+        size_t dead = std::count(probes.expected.begin(), probes.expected.end(), 1), within = 0;
+        for (size_t call = 0; call < probes.script.size(); call++) {
+            u32 mask = g32(&probes.book[12 + 4 * probes.script[call].slot]);
+            within += probes.expected[call] && mask >> probes.script[call].type & 1;
+        }
+        std::vector<Times> times = probe_times(probes);
+        double ours = middle(times[0]), percent = 100.0 / probes.script.size();
+        rows.add("| %s | %s | %zu | %.1f%% | %.1f%% | %.2f | %.0f | %.0f | %zu |\n", probes.name.c_str(), kind,
+                 probes.script.size(), percent * dead, percent * within, walls.add(ours / middle(times[1])),
+                 sessions.add(middle(times[2]) / ours), ours, times[0].size());
+        for (auto &times_of_prober : times) rows.taken_from(times_of_prober);
+    }
+    void add_mean(Rows &rows) const {
+        rows.add("| geometric mean | %s | | | | %.2f | %.0f | | |\n", kind, walls.mean(), sessions.mean());
+    }
+    void add_worst(Rows &rows) const {
+        rows.add("| worst | %s | | | | %.2f | %.0f | | |\n", kind, walls.greatest, sessions.least);
+    }
+};
+
+void probes_table(const std::vector<Instance> &instances) {
+    Rows rows;
+    ProbeRows fresh("fresh"), planned("half planned");
+    rows.add("| Instance | book | probes | dead | dead, the slot has the type | probe / walls | sessions / probe "
+             "| probe, ns | rounds |\n|---|---|---|---|---|---|---|---|---|\n");
+    for (auto &instance : instances) fresh.add(rows, instance);
+    for (auto &instance : instances) planned.add(rows, half_planned(instance));
+    for (auto kind : { &fresh, &planned }) kind->add_mean(rows);
+    for (auto kind : { &fresh, &planned }) kind->add_worst(rows);
+    rows.print();
+}
+
+/* Each prober passes, and is found out when the first expected byte is damaged, or the last that all of them write. */
+void find_out_prober(const Instance &instance) {
+    Instance probes = probes_of(instance);
+    Probers probers = probers_of(probes);
+    size_t last = (probes.script.size() - 1) / PROBES_OF_A_SESSION * PROBES_OF_A_SESSION;
+    for (size_t damaged : { (size_t)0, last }) {
+        probes.expected[damaged] ^= 1;
+        for (auto &prober : probers) {
+            if (prober->right()) fail("%s: %s passes with a damaged byte", probes.name.c_str(), prober->name());
+        }
+        probes.expected[damaged] ^= 1;
+    }
+}
+
+void find_out_probers(const std::vector<Instance> &instances) {
+    for (auto &instance : instances) {
+        find_out_prober(instance);
+        find_out_prober(half_planned(instance));
+    }
+}
+
 #endif
 
 int run(int count, char **words) {
@@ -687,7 +908,9 @@ int run(int count, char **words) {
     if (table == "all-in") return all_in_table(instances), 0;
     if (table == "kinds") return kinds_table(instances), 0;
     if (table == "search") return search_table(instances), 0;
+    if (table == "probes") return probes_table(instances), 0;
     if (table == "wrong-search") return find_out_searches(instances), 0;
+    if (table == "wrong-probes") return find_out_probers(instances), 0;
 #endif
     fail("no table %s", table.c_str());
 }

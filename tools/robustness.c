@@ -4,18 +4,20 @@
  * and prints how many of each kind gave each answer. An input follows from the seed and its number alone, so that a
  * failure is run again by its number. Built with -DFUZZ it is a target of libFuzzer instead.
  *
- * Check, close, settle and session run twice on each input: once with every buffer against an unreadable page behind
- * it, once with one in front; the outputs hold other bytes each time, and for one input in eight the stack does. What
- * must hold:
- * - the answers are those that nested_gcc.h names, and agree with each other: close, settle and session refuse a book
- *   as check does, 10 and 9 are answered exactly where the lengths say so, a book dead in closing is dead in settling,
- *   and the session opens as settle answers;
+ * Check, close, settle, session and probe run twice on each input: once with every buffer against an unreadable page
+ * behind it, once with one in front, and NULL for a buffer without a byte; the outputs hold other bytes each time, and
+ * for one input in eight the stack does. What must hold:
+ * - the answers are those that nested_gcc.h names, and agree with each other: the others refuse a book as check does,
+ *   10 and 9 are answered exactly where the lengths say so, 11 to 13 where the first bad call of a list of probes does,
+ *   a book dead in closing is dead in settling, and session and probe open as settle answers;
  * - an output is written exactly as far as the answer says, nowhere if it is a refusal; every other byte, and the
  *   256 on the open side of each buffer, are as they were; book and calls too;
  * - both runs answer and write the same;
  * - dead writes zeros; live writes lowers at most uppers, and masks that are not empty and lie within the book's; the
- *   words of a call are such as nested_gcc.h names, and the last masks of a session lie within those of settle.
- * Then a good book goes once more through close, settle and session, with another idle type or none. What must hold:
+ *   words of a call are such as nested_gcc.h names, and the last masks of a session lie within those of settle;
+ * - probe's bytes are 1 on a dead book; on a live one each is the first word of its call in a kept session that goes
+ *   back after each, and some of a list are that of a session of the one call.
+ * Then a good book goes once more through the entries, with another idle type or none. What must hold:
  * - the answers and all that is written are the same, but for the second word of an answer live; that is not less for
  *   the book that has no idle type;
  * - in a session without marks the struck figures add up to what the masks lost since settle's, the idle type left out.
@@ -35,7 +37,7 @@
  * - both runs answer and write the same;
  * - check takes the book, all its masks are full, it is the one that the text was made from, if it was; and its own
  *   records, written plainly, import as the same book.
- * With -DSHAM=1 to 22 a wrong library is judged, and must be found out: see the functions `sham` below.
+ * With -DSHAM=1 to 30 a wrong library is judged, and must be found out: see the functions `sham` below.
  */
 #define _DEFAULT_SOURCE
 #include "nested_gcc.h"
@@ -165,9 +167,9 @@ static void must_be_kept(const struct lent *lent, size_t written, const char *na
 /* ---- inputs ---- */
 
 struct input {
-    uint8_t book[BOOK_ROOM], calls[CALLS_ROOM];
-    size_t book_length, calls_length;
-    size_t lowers_length, uppers_length, masks_length, answers_length, last_masks_length;
+    uint8_t book[BOOK_ROOM], calls[CALLS_ROOM], probes[CALLS_ROOM]; /* the calls of a session, those of probe */
+    size_t book_length, calls_length, probes_length;
+    size_t lowers_length, uppers_length, masks_length, answers_length, last_masks_length, dead_length;
     uint8_t text[TEXT_ROOM];
     size_t text_length, imported_length;
     uint32_t expected;           /* import's answer, given room, or ANY_ANSWER if the making does not say */
@@ -176,6 +178,7 @@ struct input {
 };
 
 #define ANY_ANSWER 1u /* import never answers this */
+#define ANSWERS 15    /* of the others: 0, 1, 257 to 269 */
 
 static unsigned book_slots(const struct input *input) { return input->book[0] + 256u * input->book[1]; }
 static unsigned book_types(const struct input *input) { return input->book[2]; }
@@ -191,17 +194,23 @@ static uint32_t book_mask(const struct input *input, size_t slot) { return word(
 
 /* ---- the library, or a sham ---- */
 
-enum entry { CHECK, CLOSE, SETTLE, SESSION, ENTRIES };
-static const char *const entry_names[ENTRIES] = { "check", "close", "settle", "session" };
+enum entry { CHECK, CLOSE, SETTLE, SESSION, PROBE, ENTRIES };
+static const char *const entry_names[ENTRIES] = { "check", "close", "settle", "session", "probe" };
+
+/* Where a buffer is; NULL for one without a byte, on pass 1. */
+static uint8_t *place(struct lent lent) { return lent.length == 0 && lent.from == lent.at ? NULL : lent.at; }
 
 static uint32_t library(enum entry entry, struct lent book, struct lent calls, struct lent first, struct lent second) {
     switch (entry) {
-    case CHECK: return nested_gcc_check(book.at, book.length);
-    case CLOSE: return nested_gcc_close(book.at, book.length, first.at, first.length, second.at, second.length);
-    case SETTLE: return nested_gcc_settle(book.at, book.length, first.at, first.length);
+    case CHECK: return nested_gcc_check(place(book), book.length);
+    case CLOSE:
+        return nested_gcc_close(place(book), book.length, place(first), first.length, place(second), second.length);
+    case SETTLE: return nested_gcc_settle(place(book), book.length, place(first), first.length);
+    case PROBE:
+        return nested_gcc_probe(place(book), book.length, place(calls), calls.length, place(first), first.length);
     default:
-        return nested_gcc_session(book.at, book.length, calls.at, calls.length, first.at, first.length, second.at,
-                                  second.length);
+        return nested_gcc_session(place(book), book.length, place(calls), calls.length, place(first), first.length,
+                                  place(second), second.length);
     }
 }
 
@@ -233,6 +242,66 @@ static void no_idle_type(struct lent book, struct lent masks) {
     }
 }
 
+static nested_gcc_state sham_state; /* of the wrong probes */
+
+static int opens_dead(struct lent book) { return nested_gcc_open(book.at, book.length, &sham_state) == 1; }
+
+/* With SHAM, each probe on what the live ones before it left. */
+static void probes_in_turn(struct lent book, struct lent calls, struct lent dead) {
+    static nested_gcc_state before;
+    uint32_t words[2];
+    size_t i;
+    opens_dead(book);
+    for (i = 0; i < calls.length / 4; i++) {
+        const uint8_t *call = calls.at + 4 * i;
+        before = sham_state;
+        dead.at[i] = (uint8_t)nested_gcc_call(&sham_state, call[0], call[1], half(call, 1), words);
+        if (dead.at[i] != 0) sham_state = before;
+    }
+}
+
+/* With SHAM, a probe is dead where the slot lacks the type, and live else. */
+static void probes_by_masks(struct lent book, struct lent calls, struct lent dead) {
+    size_t i;
+    opens_dead(book);
+    for (i = 0; i < calls.length / 4; i++) {
+        const uint8_t *call = calls.at + 4 * i;
+        dead.at[i] = (sham_state.masks[half(call, 1)] >> call[1] & 1u) == 0;
+    }
+}
+
+/* With SHAM, a remove is taken for an assign. */
+static uint32_t removes_probed(struct lent book, struct lent calls, struct lent dead) {
+    static uint8_t kept_calls[CALLS_ROOM];
+    uint32_t answer;
+    size_t i;
+    memcpy(kept_calls, calls.at, calls.length);
+    for (i = 0; i < calls.length / 4; i++) {
+        if (calls.at[4 * i] == NESTED_GCC_REMOVE) calls.at[4 * i] = NESTED_GCC_ASSIGN;
+    }
+    answer = library(PROBE, book, calls, dead, dead);
+    memcpy(calls.at, kept_calls, calls.length);
+    return answer;
+}
+
+/* What probe does, or with SHAM a probe that is wrong in one way. */
+static uint32_t sham_probe(struct lent book, struct lent calls, struct lent dead) {
+    size_t count = calls.length / 4;
+    uint32_t answer = SHAM == 23 ? removes_probed(book, calls, dead) : library(PROBE, book, calls, dead, dead);
+    int bad_call = answer >= 267 && answer <= 269;
+    if (SHAM == 24 && answer == 0) probes_in_turn(book, calls, dead);
+    if (SHAM == 25 && answer == 0) probes_by_masks(book, calls, dead);
+    if (SHAM == 26 && answer < 2 && count < dead.length) dead.at[count] ^= 1; /* one byte too many */
+    if (SHAM == 27 && answer == 269 && dead.length > 0) dead.at[0] ^= 1;      /* refused, yet writes */
+    if (SHAM == 28 && bad_call && dead.length < count) return 265;            /* the output before the calls */
+    if (SHAM == 29 && answer == 1) memset(dead.at, 0, count);                 /* a dead book, and no probe dead */
+    if (SHAM == 30 && bad_call && dead.length >= count && opens_dead(book)) {  /* calls on a dead book not tested */
+        memset(dead.at, 1, count);
+        return 1;
+    }
+    return answer;
+}
+
 /* What the library does, or with SHAM a library that is wrong in one way. */
 static uint32_t sham(enum entry entry, struct lent book, struct lent calls, struct lent first, struct lent second) {
     static unsigned turns;
@@ -242,6 +311,7 @@ static uint32_t sham(enum entry entry, struct lent book, struct lent calls, stru
     if (SHAM == 8 && entry == CLOSE && first.length > 0 && first.at[0] & 64) return 265; /* reads an output */
     (void)beyond;
     if (SHAM == 21 && entry == SESSION) return idle_counted(book, calls, first, second);
+    if (entry == PROBE) return sham_probe(book, calls, first);
     answer = library(entry, book, calls, first, second);
     turns++;
     if (SHAM == 1 && entry == SETTLE && answer == 0) first.at[first.length] ^= 1;   /* one byte past an output */
@@ -270,11 +340,36 @@ struct outcome {
     uint8_t first[ANSWERS_ROOM], second[TABLE_ROOM];
 };
 
-/* The answer that the lengths demand of a book that check takes: 266, 265, or 0 if it is for the book to say. */
-static uint32_t fault_of_lengths(enum entry entry, const struct input *input) {
-    size_t n = book_slots(input), table = book_types(input) * (n + 1), calls = input->calls_length / 4;
+/* The list of calls that the entry is lent. */
+static const uint8_t *list_of(enum entry entry, const struct input *input, size_t *length) {
+    *length = entry == SESSION ? input->calls_length : entry == PROBE ? input->probes_length : 0;
+    return entry == PROBE ? input->probes : input->calls;
+}
+
+/* What refuses the first bad one of so many probes, or 0 if all are good. */
+static uint32_t fault_of_probes(const struct input *input, size_t count) {
+    size_t i;
+    for (i = 0; i < count; i++) {
+        const uint8_t *call = input->probes + 4 * i;
+        if (call[0] != NESTED_GCC_ASSIGN) return NESTED_GCC_CALL_KIND;
+        if (half(call, 1) >= book_slots(input)) return NESTED_GCC_CALL_SLOT;
+        if (call[1] >= book_types(input)) return NESTED_GCC_CALL_TYPE;
+    }
+    return 0;
+}
+
+/* The answer that lengths and probes demand of a book that check takes: 266 to 269, 265, or 0 if it is for the book to
+ * say. */
+static uint32_t fault_beside_the_book(enum entry entry, const struct input *input) {
+    size_t n = book_slots(input), table = book_types(input) * (n + 1), length, calls;
+    uint32_t bad_call;
     int room = 1;
-    if (entry == SESSION && (input->calls_length % 4 != 0 || input->calls_length > NESTED_GCC_CALLS_BYTES)) return 266;
+    list_of(entry, input, &length);
+    calls = length / 4;
+    if (length % 4 != 0 || length > NESTED_GCC_CALLS_BYTES) return 266;
+    bad_call = entry == PROBE ? fault_of_probes(input, calls) : 0;
+    if (bad_call != 0) return bad_call;
+    if (entry == PROBE) room = input->dead_length >= calls;
     if (entry == CLOSE) room = input->lowers_length / 2 >= table && input->uppers_length / 2 >= table;
     if (entry == SETTLE) room = input->masks_length / 4 >= n;
     if (entry == SESSION) room = input->answers_length / 4 >= 2 * calls && input->last_masks_length / 4 >= n;
@@ -284,15 +379,17 @@ static uint32_t fault_of_lengths(enum entry entry, const struct input *input) {
 /* Runs the function once; the bytes outside of what the answer writes must be kept. */
 static void run_once(enum entry entry, const struct input *input, int pass, struct outcome *outcome) {
     size_t n = book_slots(input), table = 2 * book_types(input) * (n + 1);
-    size_t first_length = 0, second_length = 0;
+    size_t first_length = 0, second_length = 0, list_length;
+    const uint8_t *list = list_of(entry, input, &list_length);
     struct lent book, calls, first, second;
+    if (entry == PROBE) first_length = input->dead_length;
     if (entry == CLOSE) first_length = input->lowers_length, second_length = input->uppers_length;
     if (entry == SETTLE) first_length = input->masks_length;
     if (entry == SESSION) first_length = input->answers_length, second_length = input->last_masks_length;
     book = lend(book_region, input->book_length, pass, 17);
     memcpy(book.at, input->book, input->book_length);
-    calls = lend(calls_region, entry == SESSION ? input->calls_length : 0, pass, 71);
-    memcpy(calls.at, input->calls, calls.length);
+    calls = lend(calls_region, list_length, pass, 71);
+    memcpy(calls.at, list, calls.length);
     first = lend(first_region, first_length, pass, pass == 0 ? 5 : 200);
     second = lend(second_region, second_length, pass, pass == 0 ? 250 : 90);
     if (number % 8 == 0) paint_stack(pass == 0 ? 0 : 255);
@@ -301,7 +398,8 @@ static void run_once(enum entry entry, const struct input *input, int pass, stru
     if (outcome->answer < 2) {
         if (entry == CLOSE) outcome->first_written = outcome->second_written = table;
         if (entry == SETTLE) outcome->first_written = 4 * n;
-        if (entry == SESSION) outcome->first_written = 2 * input->calls_length, outcome->second_written = 4 * n;
+        if (entry == SESSION) outcome->first_written = 2 * list_length, outcome->second_written = 4 * n;
+        if (entry == PROBE) outcome->first_written = list_length / 4;
     }
     if (outcome->first_written > first_length || outcome->second_written > second_length)
         fail("%s answers %u, and an output is too short for that", entry_names[entry], (unsigned)outcome->answer);
@@ -310,7 +408,7 @@ static void run_once(enum entry entry, const struct input *input, int pass, stru
     must_be_kept(&first, outcome->first_written, "first output");
     must_be_kept(&second, outcome->second_written, "second output");
     if (memcmp(book.at, input->book, book.length) != 0) fail("%s wrote to the book", entry_names[entry]);
-    if (memcmp(calls.at, input->calls, calls.length) != 0) fail("%s wrote to the calls", entry_names[entry]);
+    if (memcmp(calls.at, list, calls.length) != 0) fail("%s wrote to the calls", entry_names[entry]);
     memcpy(outcome->first, first.at, outcome->first_written);
     memcpy(outcome->second, second.at, outcome->second_written);
 }
@@ -367,14 +465,16 @@ static void judge_answers(const struct input *input) {
     if (check != 0 && !(check >= 257 && check <= 264)) fail("check answers %u", (unsigned)check);
     for (entry = CLOSE; entry < ENTRIES; entry++) {
         uint32_t answer = outcomes[entry].answer, expected = check;
-        if (check == 0) expected = fault_of_lengths((enum entry)entry, input);
+        if (check == 0) expected = fault_beside_the_book((enum entry)entry, input);
         if (expected == 0 ? answer > 1 : answer != expected)
             fail("%s answers %u where check answers %u", entry_names[entry], (unsigned)answer, (unsigned)check);
     }
     if (outcomes[CLOSE].answer == 1 && outcomes[SETTLE].answer == 0) fail("dead in closing, live in settling");
-    if (outcomes[SETTLE].answer < 2 && outcomes[SESSION].answer < 2 &&
-        outcomes[SETTLE].answer != outcomes[SESSION].answer)
-        fail("settle and session do not agree on live or dead");
+    for (entry = SESSION; entry < ENTRIES; entry++) {
+        if (outcomes[SETTLE].answer < 2 && outcomes[entry].answer < 2 &&
+            outcomes[SETTLE].answer != outcomes[entry].answer)
+            fail("settle and %s do not agree on live or dead", entry_names[entry]);
+    }
 }
 
 static void judge_outputs(const struct input *input) {
@@ -456,8 +556,51 @@ static void judge_idle(const struct input *input) {
             fail("%s: another output with another idle type", entry_names[entry]);
         if (memcmp(outcome.second, here->second, here->second_written) != 0)
             fail("%s: another second output with another idle type", entry_names[entry]);
+        if (entry == SESSION && outcome.answer < 2) judge_figures(input, &other, &outcome);
     }
-    if (outcome.answer < 2) judge_figures(input, &other, &outcome);
+}
+
+/* ---- probes ---- */
+
+static unsigned long probes_live, probes_dead, probes_dead_within; /* the last: dead though the slot has the type */
+
+/* The first word of a session of one call. */
+static uint32_t word_alone(const struct input *input, const uint8_t *call) {
+    uint8_t words[8], masks[NESTED_GCC_MASKS_BYTES];
+    uint32_t opened = nested_gcc_session(input->book, input->book_length, call, 4, words, sizeof words, masks,
+                                         sizeof masks);
+    if (opened != 0) fail("a session of one call answers %u where probe opens live", (unsigned)opened);
+    return word(words, 0);
+}
+
+/* The first word of the call in a kept session, which then is as before. */
+static uint32_t word_taken_back(nested_gcc_state *session, const uint8_t *call) {
+    uint32_t words[2], back[2];
+    if (nested_gcc_call(session, NESTED_GCC_MARK, 0, 0, back) != NESTED_GCC_CALL_DONE) fail("no mark for a probe");
+    nested_gcc_call(session, call[0], call[1], half(call, 1), words);
+    if (nested_gcc_call(session, NESTED_GCC_BACK, 0, 0, back) != NESTED_GCC_CALL_DONE) fail("no back after a probe");
+    return words[0];
+}
+
+/* Each byte is what the call alone is answered; up to three of a list are made as sessions of one call too. */
+static void judge_probes(const struct input *input) {
+    static nested_gcc_state session;
+    const struct outcome *probe = &outcomes[PROBE];
+    size_t count = input->probes_length / 4, i;
+    uint32_t opened;
+    if (probe->answer > 1) return;
+    opened = nested_gcc_open(input->book, input->book_length, &session);
+    if (opened != probe->answer) fail("probe answers %u, open %u", (unsigned)probe->answer, (unsigned)opened);
+    for (i = 0; i < count; i++) {
+        const uint8_t *call = input->probes + 4 * i;
+        uint32_t expected = opened == 0 ? word_taken_back(&session, call) : 1;
+        if (probe->first[i] != expected) fail("probe %zu: byte %u, word %u", i, probe->first[i], (unsigned)expected);
+        if (opened == 0 && i % (count / 3 + 1) == 0 && word_alone(input, call) != expected)
+            fail("probe %zu: a session of this call alone says otherwise", i);
+        probes_live += opened == 0 && expected == 0;
+        probes_dead += opened == 0 && expected == 1;
+        probes_dead_within += expected == 1 && (session.masks[half(call, 1)] >> call[1] & 1u) != 0;
+    }
 }
 
 /* ---- a kept session ---- */
@@ -468,7 +611,7 @@ static struct region state_region;
 static uint8_t state_paints[2][STATE_ROOM]; /* what the region holds before an opening, on each pass */
 static const uint8_t *state_paint;
 static nested_gcc_state *kept; /* at one side of the region */
-static unsigned long opens[12], steps[12]; /* by answer: 0, 1, 257 to 266 */
+static unsigned long opens[ANSWERS], steps[ANSWERS];
 static unsigned long single_calls, moves;
 
 static void count_answer(unsigned long *counts, uint32_t answer) {
@@ -794,6 +937,7 @@ static void judge(const struct input *input) {
     judge_answers(input);
     judge_outputs(input);
     judge_idle(input);
+    judge_probes(input);
     judge_kept(input);
     judge_import(input);
 }
@@ -980,6 +1124,72 @@ static unsigned make_room(struct input *input) {
         if (kind == 2 && i == cut && needed[i] > 0) *lengths[i] -= between(1, needed[i] < 9 ? (unsigned)needed[i] : 9);
         if (kind == 3) *lengths[i] = below(40 + (unsigned)needed[i]);
     }
+    return kind;
+}
+
+/* ---- lists of probes ---- */
+
+static const char *const probe_kinds[] = {
+    "no calls", "good assigns", "every type in every slot", "good assigns, 1 to 4 bits flipped",
+    "good assigns, some fields at a limit or past it", "random bytes, whole calls", "the calls of the session",
+    "not whole calls", "the longest list", "longer than the longest list"
+};
+#define PROBE_KINDS (sizeof probe_kinds / sizeof *probe_kinds)
+
+static void put_probe(struct input *input, size_t i, unsigned kind, unsigned type, unsigned slot) {
+    input->probes[4 * i] = (uint8_t)kind;
+    input->probes[4 * i + 1] = (uint8_t)type;
+    put_half(input->probes + 4 * i + 2, slot);
+}
+
+/* Assigns of slots and types that the book has if its header says so: any of them, or one after the other. */
+static void good_probes(struct input *input, unsigned count, int in_turn) {
+    unsigned n = book_slots(input), k = book_types(input), i, from;
+    n = n == 0 ? 1 : n, k = k == 0 ? 1 : k;
+    if (in_turn) count = n * k < 4096 ? n * k : 4096;
+    from = in_turn ? below(n * k - count + 1) : 0;
+    for (i = 0; i < count; i++) {
+        if (in_turn) put_probe(input, i, NESTED_GCC_ASSIGN, (from + i) % k, (from + i) / k);
+        else put_probe(input, i, NESTED_GCC_ASSIGN, below(k), below(n));
+    }
+    input->probes_length = 4 * count;
+}
+
+/* One field of a call set to a limit, or past it. */
+static void probe_at_a_limit(struct input *input) {
+    static const uint8_t kinds[] = { 0, 2, 2, 2, 3, 4, 5, 6, 7, 8, 255 };
+    uint8_t *call = input->probes + 4 * below((unsigned)input->probes_length / 4);
+    unsigned n = book_slots(input), k = book_types(input);
+    switch (below(3)) {
+    case 0: call[0] = kinds[below(sizeof kinds)]; break;
+    case 1: call[1] = (uint8_t)(below(4) == 0 ? 255 : k - 1 + below(3)); break;
+    default: put_half(call + 2, below(4) == 0 ? 65535 : n - 1 + below(3));
+    }
+}
+
+static unsigned make_probes(struct input *input) {
+    static const uint8_t kinds[] = { 0, 1, 1, 1, 1, 2, 2, 2, 3, 3, 4, 4, 4, 5, 6, 7 };
+    unsigned kind = below(300) == 0 ? between(8, 9) : kinds[below(sizeof kinds)], i;
+    good_probes(input, kind == 0 ? 0 : kind >= 8 ? 4098 : between(1, 40), kind == 2);
+    for (i = between(1, 4); i > 0 && kind == 3; i--)
+        input->probes[below((unsigned)input->probes_length)] ^= (uint8_t)(1u << below(8));
+    for (i = between(1, 3); i > 0 && kind == 4; i--) probe_at_a_limit(input);
+    if (kind == 5) put_random(input->probes, input->probes_length);
+    if (kind == 6) memcpy(input->probes, input->calls, input->probes_length = input->calls_length);
+    if (kind == 7) input->probes_length -= between(1, 3);
+    if (kind == 8) input->probes_length = NESTED_GCC_CALLS_BYTES;
+    if (kind == 9) input->probes_length = NESTED_GCC_CALLS_BYTES + between(1, 8);
+    return kind;
+}
+
+static const char *const dead_room_kinds[] = { "a byte a call", "longer", "shorter", "any length" };
+
+static unsigned make_dead_room(struct input *input) {
+    unsigned kind = (unsigned)"\0\0\0\1\1\2\3"[below(7)], count = (unsigned)input->probes_length / 4;
+    input->dead_length = count;
+    if (kind == 1) input->dead_length += between(1, 10);
+    if (kind == 2 && count > 0) input->dead_length -= between(1, count < 9 ? count : 9);
+    if (kind == 3) input->dead_length = below(40 + count);
     return kind;
 }
 
@@ -1190,15 +1400,18 @@ static unsigned make_import_room(struct input *input) {
 
 /* ---- counts ---- */
 
-#define ANSWERS 12 /* 0, 1, 257 to 266 */
+#define SESSION_ANSWERS 12 /* 0, 1, 257 to 266 */
+#define PROBE_ANSWERS 8    /* 0, 1, one of 257 to 264, 265 to 269 */
 
-static unsigned long by_book[BOOK_KINDS][ANSWERS], by_entry[ENTRIES][ANSWERS];
+static unsigned long by_book[BOOK_KINDS][SESSION_ANSWERS], by_entry[ENTRIES][ANSWERS];
+static unsigned long by_probes[PROBE_KINDS][PROBE_ANSWERS], by_dead_room[ROOM_KINDS][PROBE_ANSWERS];
 static unsigned long by_calls[CALL_KINDS][3], by_room[ROOM_KINDS][3];
 static unsigned long first_words[16]; /* 0 to 3, then 267 to 272 from 4 on */
 static unsigned long by_text[TEXT_KINDS][IMPORT_ANSWERS], by_import_room[ROOM_KINDS][IMPORT_ANSWERS];
 
 static unsigned answer_place(uint32_t answer) { return answer < 2 ? answer : answer - 255; }
 static unsigned verdict_place(uint32_t answer) { return answer < 2 ? answer : 2; }
+static unsigned probe_place(uint32_t answer) { return answer < 2 ? answer : answer < 265 ? 2 : answer - 262; }
 
 static void count(const struct input *input, unsigned book, unsigned calls, unsigned room) {
     const struct outcome *session = &outcomes[SESSION];
@@ -1234,8 +1447,9 @@ static void print_head(const char *first, const char *const *columns, size_t len
 }
 
 static void print_counts(void) {
-    static const char *const answers[] = { "0",   "1",   "257", "258", "259", "260",
-                                           "261", "262", "263", "264", "265", "266" };
+    static const char *const answers[] = { "0",   "1",   "257", "258", "259", "260", "261", "262",
+                                           "263", "264", "265", "266", "267", "268", "269" };
+    static const char *const of_probe[] = { "0", "1", "257 to 264", "265", "266", "267", "268", "269" };
     static const char *const verdicts[] = { "opened live", "opened dead", "refused" };
     static const char *const words[] = { "0", "1", "2", "3", "267", "268", "269", "270", "271", "272" };
     static const char *const of_import[] = { "0", "258", "262", "263", "264", "265", "273", "274" };
@@ -1244,8 +1458,8 @@ static void print_counts(void) {
     for (i = 0; i < ENTRIES; i++) print_line(entry_names[i], by_entry[i], ANSWERS);
     print_line("open", opens, ANSWERS);
     print_line("step", steps, ANSWERS);
-    print_head("session's answers by kind of book", answers, ANSWERS);
-    for (i = 0; i < BOOK_KINDS; i++) print_line(book_kinds[i], by_book[i], ANSWERS);
+    print_head("session's answers by kind of book", answers, SESSION_ANSWERS);
+    for (i = 0; i < BOOK_KINDS; i++) print_line(book_kinds[i], by_book[i], SESSION_ANSWERS);
     print_head("session by kind of call list", verdicts, 3);
     for (i = 0; i < CALL_KINDS; i++) print_line(call_kinds[i], by_calls[i], 3);
     print_head("session by outputs", verdicts, 3);
@@ -1256,6 +1470,12 @@ static void print_counts(void) {
            single_calls, moves);
     printf("%lu inputs had a good book with an idle type. With another idle type, or none, %lu live answers had "
            "another struck figure.\n", idle_books, other_figures);
+    print_head("probe's answers by kind of call list", of_probe, PROBE_ANSWERS);
+    for (i = 0; i < PROBE_KINDS; i++) print_line(probe_kinds[i], by_probes[i], PROBE_ANSWERS);
+    print_head("probe's answers by output", of_probe, PROBE_ANSWERS);
+    for (i = 0; i < ROOM_KINDS; i++) print_line(dead_room_kinds[i], by_dead_room[i], PROBE_ANSWERS);
+    printf("\nOf the probes on live books %lu were live and %lu dead, %lu of these though the slot has the type.\n",
+           probes_live, probes_dead, probes_dead_within);
     print_head("import's answers by kind of text", of_import, IMPORT_ANSWERS);
     for (i = 0; i < TEXT_KINDS; i++) print_line(text_kinds[i], by_text[i], IMPORT_ANSWERS);
     print_head("import's answers by output", of_import, IMPORT_ANSWERS);
@@ -1275,17 +1495,21 @@ int main(int argc, char **argv) {
     watch_signals();
     make_regions();
     for (number = first; number < first + count_of_inputs; number++) {
-        unsigned book, calls, room, text, import_room;
+        unsigned book, calls, room, text, import_room, probes, dead_room;
         state = seed * 0x2545f4914f6cdd1du + number * 0xd1342543de82ef95u;
         book = make_book(&input);
         calls = make_calls(&input);
         room = make_room(&input);
         text = make_text(&input);
         import_room = make_import_room(&input);
+        probes = make_probes(&input);
+        dead_room = make_dead_room(&input);
         judge(&input);
         count(&input, book, calls, room);
         by_text[text][import_place(imported.answer)]++;
         by_import_room[import_room][import_place(imported.answer)]++;
+        by_probes[probes][probe_place(outcomes[PROBE].answer)]++;
+        by_dead_room[dead_room][probe_place(outcomes[PROBE].answer)]++;
     }
     print_counts();
     return 0;
@@ -1357,6 +1581,21 @@ static void repair_calls(struct input *input) {
     }
 }
 
+/* The probes: the bytes themselves, or assigns of what the book has, but a remove for each whose first byte is 255. */
+static void put_fuzzed_probes(struct input *input, const uint8_t *bytes, size_t length, int repaired) {
+    unsigned n = book_slots(input), k = book_types(input);
+    size_t i;
+    memcpy(input->probes, bytes, input->probes_length = length);
+    if (!repaired || n == 0 || k == 0) return;
+    input->probes_length -= length % 4;
+    for (i = 0; i < input->probes_length / 4; i++) {
+        uint8_t *call = input->probes + 4 * i;
+        call[0] = call[0] == 255 ? NESTED_GCC_REMOVE : NESTED_GCC_ASSIGN;
+        call[1] = (uint8_t)(call[1] % k);
+        put_half(call + 2, half(call, 1) % n);
+    }
+}
+
 /* The text: the bytes themselves, or each a token of those that texts are made of. */
 static void put_fuzzed_text(struct input *input, const uint8_t *bytes, size_t length, int tokens) {
     static const char alphabet[] = "0123456789,\"\r\n\r\nx"; /* token 12 is a whole line end */
@@ -1370,7 +1609,18 @@ static void put_fuzzed_text(struct input *input, const uint8_t *bytes, size_t le
     input->expected = ANY_ANSWER;
 }
 
-static unsigned long import_counts[IMPORT_ANSWERS];
+static unsigned long probe_counts[3], import_counts[IMPORT_ANSWERS];
+
+/* Tells libFuzzer how many probes are live, and how many dead, and of which kind. */
+static void note_probes(void) {
+    static unsigned long live, dead, within; /* of the inputs before this one */
+    uint32_t answer = outcomes[PROBE].answer;
+    note(609, (uint32_t)(probes_live - live));
+    note(610, (uint32_t)(probes_dead - dead));
+    note(611, (uint32_t)(probes_dead_within - within));
+    live = probes_live, dead = probes_dead, within = probes_dead_within;
+    probe_counts[answer < 2 ? answer : 2]++;
+}
 
 /* Tells libFuzzer of the answer and of how many line ends the text has. */
 static void note_import(const struct input *input) {
@@ -1386,6 +1636,9 @@ static unsigned long opened_live, opened_dead, refused, decisions;
 static void print_sessions(void) {
     fprintf(stderr, "sessions: %lu opened live, %lu opened dead, %lu refused; %lu decisions answered live or dead\n",
             opened_live, opened_dead, refused, decisions);
+    fprintf(stderr, "probes: %lu lists on live books, %lu on dead ones, %lu refused; on live books %lu probes live, "
+            "%lu dead, %lu of these though the slot has the type\n",
+            probe_counts[0], probe_counts[1], probe_counts[2], probes_live, probes_dead, probes_dead_within);
     fprintf(stderr, "imports: %lu good, %lu refused by 17, %lu by 18, %lu by 2, %lu by 6 to 8, %lu by 9\n",
             import_counts[0], import_counts[6], import_counts[7], import_counts[1],
             import_counts[2] + import_counts[3] + import_counts[4], import_counts[5]);
@@ -1411,8 +1664,8 @@ int LLVMFuzzerInitialize(int *argc, char ***argv) {
     return 0;
 }
 
-/* The input: what to repair and which output to cut (1 byte), the book's length (2 bytes), the book, the calls. Book
- * and calls together are the text too, and the 2 bytes say how long its output is. */
+/* The input: what to repair and which output to cut (1 byte), the book's length (2 bytes), the book, the calls, which
+ * are the probes too. Book and calls together are the text too, and the 2 bytes say how long its output is. */
 int LLVMFuzzerTestOneInput(const uint8_t *data, size_t size) {
     static struct input input;
     size_t book, n, k;
@@ -1428,7 +1681,8 @@ int LLVMFuzzerTestOneInput(const uint8_t *data, size_t size) {
     if (data[0] & 1) repair_book(&input);
     if (data[0] & 2) repair_calls(&input);
     n = book_slots(&input) % 257, k = book_types(&input) % 33;
-    cut = data[0] >> 2 & 7; /* which output is one byte too short; 5 to 7: none */
+    put_fuzzed_probes(&input, data + 3 + book, size - 3 - book, data[0] >> 1 & 1);
+    cut = data[0] >> 2 & 7; /* which output is one byte too short; 6 and 7: none */
     input.lowers_length = 2 * k * (n + 1) - (k > 0 && cut == 0);
     input.uppers_length = 2 * k * (n + 1) - (k > 0 && cut == 1);
     input.masks_length = 4 * n - (n > 0 && cut == 2);
@@ -1436,11 +1690,14 @@ int LLVMFuzzerTestOneInput(const uint8_t *data, size_t size) {
     input.answers_length = 2 * input.calls_length;
     if (input.answers_length > NESTED_GCC_ANSWERS_BYTES) input.answers_length = NESTED_GCC_ANSWERS_BYTES;
     input.answers_length -= input.answers_length > 0 && cut == 4;
+    input.dead_length = input.probes_length / 4 + (data[0] >> 6);
+    input.dead_length -= input.dead_length > 0 && cut == 5;
     put_fuzzed_text(&input, data + 3, size - 3, data[0] >> 5 & 1);
     input.imported_length = (data[1] + 256u * data[2]) % (NESTED_GCC_BOOK_BYTES + 100);
     number++;
     judge(&input);
     note_outcomes(&input);
+    note_probes();
     note_import(&input);
     count_session(&input);
     return 0;

@@ -1,3 +1,3 @@
-mod CutLaws
+pub mod CutLaws
 mod DecideLaws
 mod WorkingLaws

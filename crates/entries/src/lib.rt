@@ -10,7 +10,7 @@ ghost use Rattle.book.specs.Refusal.{refusal, numberOf};
 ghost use Rattle.closing.specs.Close.{Closes, closeOf};
 ghost use Rattle.settle_fault.specs.Settle.{Settles, settleOf};
 ghost use Rattle.session_fault.specs.Entry.{SessionRan, sessionOf};
-ghost use Rattle.entries_model.specs.Entries.{fullLimits, ImportEntry};
+ghost use Rattle.entries_model.specs.Entries.{fullLimits, ImportEntry, ProbeEntry};
 
 // Whether book is a good book, or why not.
 pub fn check(book: &[u8]) -> Verdict
@@ -68,4 +68,16 @@ pub fn import_csv(text: &[u8], book: &mut [u8]) -> Answer
     ensures { λ r. ⌜ ImportEntry (now (text .entry)) (now (book .entry)) (wordOf r) (now (book .exit)) ⌝ }
 {
     csv::import_csv(text, book)
+}
+
+// Writes a byte for each assign call of the list into the front of dead: 1 where that assignment alone, on the opened book, is answered dead.
+pub fn probe(book: &[u8], calls: &[u8], dead: &mut [u8]) -> Answer
+    ensures { λ r. ⌜ ProbeEntry (now (book .entry)) (now (calls .entry)) (now (dead .entry)) (wordOf r) (now (dead .exit)) ⌝ }
+{
+    let limits = Limits {
+        slots: 256,
+        values: 32,
+        rows: 1024,
+    };
+    probe::probe(book, limits, calls, dead)
 }

@@ -21,6 +21,7 @@ use Rattle.session_model.proofs.CallsLaws.{length-callsOf}
 use Rattle.session_model.proofs.IdleLaws.{same-but-struck, struckless-first, struckless-second}
 use Rattle.session_model.proofs.OutputLaws.{length-words}
 use Rattle.session_fault.specs.Entry.{mostMarks, sessionFault, Outcome, refused, ran, openedWord, sessionGood, sessionOf, SessionRan}
+use Rattle.probe_model.proofs.IdleLaws.{probe-same}
 use Rattle.entries_model.specs.Entries.{fullLimits, answered, SessionEntry}
 use Rattle.entries_model.specs.IdleMeaning.{SameTold, SameEntries}
 use Rattle.entries_model.specs.Meaning.{sessionNumber, sessionWords, sessionMasks}
@@ -127,5 +128,6 @@ module _ {b c : List ℕ} (other : OtherIdle b c) where
         close = λ L U r L′ U′ entry.
             subst (λ (o : Close.Outcome). Close.Closes (bytesOf 2) o r L U L′ U′) (sym (close-same (whole 2 (length L)) (whole 2 (length U)))) entry;
         settle = λ M r M′ entry. rw (settle-same (whole 4 (length M))) entry;
+        probe = λ calls D r D′ entry. entry ∙ sym (probe-same other fullLimits calls D);
         session = session-same;
       }

@@ -1,5 +1,6 @@
 pub mod CheckLaws
 pub mod IdleTheorems
 pub mod ImportTheorems
+pub mod ProbeTheorems
 pub mod Theorems
 pub mod WidthLaws

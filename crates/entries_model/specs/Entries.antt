@@ -1,4 +1,4 @@
--- What the exported entries promise, from bytes to bytes (document 01, 'Entries and their numbers'; document 02, request one).
+-- What the exported entries promise, from bytes to bytes (document 01, 'Entries and their numbers'; document 02, requests one and four).
 --   fullLimits        document 01's limits: 256 slots, 32 types, 1024 rows
 --   answered number   0 where no number refuses, else 256 + the number
 --   checkAnswer b     what check answers for the bytes b: 0 for a good book
@@ -9,6 +9,8 @@
 --   SessionEntry b calls A M r A′ M′   of book b, a call list and the outputs A and M as they are lent: r is what session answers, and A′ and M′
 --                     are the outputs as they come back; words and masks are 32 bits, little-endian
 --   ImportEntry s o r o′   of the text s and the output o as it is lent: r is what import_csv answers, and o′ is the output as it comes back
+--   ProbeEntry b calls D r D′   of book b, a list of assign calls and the output D as it is lent: r is what probe answers, and D′ is the output as it
+--                     comes back
 -- Assumes nothing.
 use mathlib.Core.Path.{_≡_}
 use mathlib.Core.List.{List}
@@ -21,6 +23,7 @@ use Rattle.closing.specs.Close.{Closes, closeOf}
 use Rattle.settle_fault.specs.Settle.{Settles, settleOf}
 use Rattle.session_fault.specs.Entry.{sessionOf, SessionRan}
 use Rattle.csv_model.specs.Import.{csvFault, bookOf, stored}
+use Rattle.probe_model.specs.Probe.{Probes}
 
 abbrev pub fullLimits : Limits
 fullLimits = record { slots = 256; values = 32; rows = 1024 }
@@ -44,3 +47,6 @@ SessionEntry b calls A M r A′ M′ = SessionRan (bytesOf 4) (sessionOf fullLim
 pub record ImportEntry (s o : List ℕ) (r : ℕ) (o′ : List ℕ) : Type 0 where
   pub answer : r ≡ answered (csvFault fullLimits s (length o))
   pub output : o′ ≡ stored (csvFault fullLimits s (length o)) (bookOf s) o
+
+abbrev pub ProbeEntry : List ℕ → List ℕ → List ℕ → ℕ → List ℕ → Type 0
+ProbeEntry b calls D r D′ = Probes fullLimits b calls D r D′

@@ -2,4 +2,5 @@ pub mod Entries
 pub mod IdleMeaning
 pub mod ImportMeaning
 pub mod Meaning
+pub mod ProbeMeaning
 pub mod Version

@@ -1,12 +1,13 @@
 // The exported entries: thin forms, for a host written in C or Rust. A slice crosses as a pointer and a length. Check, close, settle, session,
-// open and import have no premise: each takes every slice of every length, and answers 0 (live; of check and import: a good book), 1 (dead) or
+// probe, open and import have no premise: each takes every slice of every length, and answers 0 (live; of check and import: a good book), 1 (dead) or
 // 256 + the number of a refusal. A step and a call rest on memory that an opening which was not refused, and what came after it, left. The contracts cite
 // entries_model's `specs/Entries.antt` and `specs/Version.antt`, and kept_model's `specs/Kept.antt` and `specs/Entries.antt`.
 use answer::word;
+use book::Limits;
 use kept::Words;
 ghost use mathlib.Core.Path.{_≡_};
 ghost use Rattle.session_model.specs.Calls.{callOf};
-ghost use Rattle.entries_model.specs.Entries.{checkAnswer, CloseEntry, SettleEntry, SessionEntry, ImportEntry};
+ghost use Rattle.entries_model.specs.Entries.{checkAnswer, CloseEntry, SettleEntry, SessionEntry, ImportEntry, ProbeEntry};
 ghost use Rattle.entries_model.specs.Version.{version};
 ghost use Rattle.kept_model.specs.Entries.{OpenEntry, KeptSteps, KeptCalls};
 ghost use Rattle.kept_model.specs.Kept.{Kept};
@@ -15,9 +16,16 @@ ghost use Rattle.kept_model.specs.Memory.{memory};
 // The version of this part.
 const MAJOR: u32 = 1;
 
-const MINOR: u32 = 3;
+const MINOR: u32 = 4;
 
-const PATCH: u32 = 1;
+const PATCH: u32 = 0;
+
+// Document 01's limits.
+const SLOTS: usize = 256;
+
+const TYPES: usize = 32;
+
+const ROWS: usize = 1024;
 
 // Whether book is a good book. Writes nothing, and never answers dead.
 #[no_mangle]
@@ -118,6 +126,19 @@ pub extern "C" fn nested_gcc_import_csv(text: &[u8], book: &mut [u8]) -> u32
     ensures { λ r. ⌜ ImportEntry (now (text .entry)) (now (book .entry)) r (now (book .exit)) ⌝ }
 {
     word(csv::import_csv(text, book))
+}
+
+// Which assign calls of a list would die, each alone on the opened book: a byte a call, 1 for dead.
+#[no_mangle]
+pub extern "C" fn nested_gcc_probe(book: &[u8], calls: &[u8], dead: &mut [u8]) -> u32
+    ensures { λ r. ⌜ ProbeEntry (now (book .entry)) (now (calls .entry)) (now (dead .entry)) r (now (dead .exit)) ⌝ }
+{
+    let limits = Limits {
+        slots: SLOTS,
+        values: TYPES,
+        rows: ROWS,
+    };
+    word(probe::probe(book, limits, calls, dead))
 }
 
 // The version of this part in one number.

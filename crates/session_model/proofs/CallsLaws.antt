@@ -1,5 +1,5 @@
 -- The laws of `specs/Calls.antt`: a kind from 8 up is unknown; the calls of a list of bytes one at a time, and of whole calls and more bytes
--- (`callsOf-append`). No contract cites this file.
+-- (`callsOf-append`), and of the bytes of one call (`callsOf-one`). No contract cites this file.
 -- Assumes nothing.
 use mathlib.Core.Path.{_≡_, refl, sym, ap, _∙_}
 use mathlib.Core.List.{List, [], _∷_, _++_, append-assoc, append-nil}
@@ -7,8 +7,8 @@ use Prim.Native.Nat.{ℕ, zero, suc, _+_, _*_, _/_, _≤_, _<_}
 use native.Mathlib.Nat.{add-zero, add-suc}
 use native.Mathlib.Numerals.{add-one}
 use native.Mathlib.Omega.{arith}
-use lib.ListN.{length, getD, length-append, List·getD-append}
-use lib.Seq.{getD-append-add}
+use lib.ListN.{length, getD, take, drop, length-append, length-drop, List·getD-append}
+use lib.Seq.{getD-append-add, getD-take, getD-drop, length-take-le}
 use Rattle.book.specs.Layout.{listOf}
 use Rattle.book.proofs.LayoutLaws.{listOf-suc, length-listOf}
 use Rattle.session_model.specs.Calls.{Call, unknown, callOf, callAt, callsTo, callsOf}
@@ -90,3 +90,15 @@ module _ (bytes more : List ℕ) (m : ℕ) (long : length bytes ≡ 4 * m) where
       (callsTo-front m (omega arith) ∙ ap (λ (j : ℕ). callsTo bytes j) (let count : m ≡ length bytes / 4 = omega (arith, long) in count))
       ∙ ap (λ (cs : List Call). callsOf bytes ++ cs)
       (listOf-same (length more / 4) (λ i. callAt (bytes ++ more) (m + i)) (callAt more) (λ j j<m. callAt-back j))
+
+-- the four bytes of call i, as a list of one call
+pub callsOf-one : (bytes : List ℕ) (i : ℕ) → i < length bytes / 4 → callsOf (take 4 (drop (4 * i) bytes)) ≡ callAt bytes i ∷ []
+unfolding listOf
+callsOf-one bytes i i<m =
+    let four : length (take 4 (drop (4 * i) bytes)) ≡ 4 = length-take-le 4 (drop (4 * i) bytes) (omega (arith, length-drop (4 * i) bytes)) in
+    let count : length (take 4 (drop (4 * i) bytes)) / 4 ≡ 1 = omega (arith, four) in
+    ap (λ (m : ℕ). callsTo (take 4 (drop (4 * i) bytes)) m) count
+    ∙ ap (λ (c : Call). c ∷ [])
+    (callAt-by (take 4 (drop (4 * i) bytes)) bytes 0 i
+    (λ p q d p-is q-is d<4.
+    getD-take 4 (drop (4 * i) bytes) p 0 (omega (arith, p-is)) ∙ getD-drop (4 * i) bytes p 0 ∙ ap (λ (at : ℕ). getD bytes at 0) (omega (arith, p-is, q-is))))

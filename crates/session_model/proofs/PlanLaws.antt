@@ -19,7 +19,7 @@ use Rattle.session_model.specs.BookRun.{stateAfter, forceAfter}
 use Rattle.session_model.specs.Demand.{Refused, At, answerTo, PlanMeets, Demand3}
 
 module _ (b p : List ℕ) (plan : BookPlan b p) where
-  plan-allowed : (ds : List Decision) → PlanMeets p ds → Allowed (masks b) ds (singles p)
+  pub plan-allowed : (ds : List Decision) → PlanMeets p ds → Allowed (masks b) ds (singles p)
   plan-allowed ds meets =
       record {
         within = allowed-singles p (masks b) (plan .slots ∙ sym (length-masks b)) (λ s s<n. plan .allowed s (omega (arith, plan .slots)));

@@ -1,4 +1,5 @@
-/// A list of calls to be written, for [`session`](crate::session) and [`Live::run`](crate::Live::run).
+/// A list of calls to be written, for [`session`](crate::session), [`Live::run`](crate::Live::run) and
+/// [`probe_into`](crate::probe_into).
 ///
 /// It writes what it is given and judges nothing. Fields that a kind of call does not use are written as 0.
 ///

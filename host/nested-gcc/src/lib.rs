@@ -7,8 +7,11 @@
 //!   from where it stands.
 //! - [`session`] makes a whole list of such calls from the book's opening, and gives an [`Answer`] to each call and the
 //!   last masks.
+//! - [`probe`] says which picks, each a type for a slot, would die on a book; [`menu`] gives the types that would live
+//!   in a slot.
 //! - [`import_csv`] gives the book that orders in CSV say.
-//! - [`close_into`], [`settle_into`], [`session_into`] and [`import_csv_into`] write the same into the caller's bytes.
+//! - [`close_into`], [`settle_into`], [`session_into`], [`probe_into`] and [`import_csv_into`] write the same into the
+//!   caller's bytes.
 //! - [`Book`] writes the bytes of a book, [`Calls`] those of a list of calls.
 //! - [`version`] says which version of the archive is linked.
 //!
@@ -34,6 +37,7 @@ mod book;
 mod calls;
 mod import;
 mod live;
+mod probe;
 mod refusal;
 mod session;
 mod sys;
@@ -44,6 +48,7 @@ pub use book::Book;
 pub use calls::Calls;
 pub use import::{import_csv, import_csv_into};
 pub use live::{Decided, Live, Standing};
+pub use probe::{menu, probe, probe_into};
 pub use refusal::{CallRefusal, Refusal};
 pub use session::{session, session_into, Answer, Session};
 pub use table::Table;
@@ -75,11 +80,15 @@ pub const TABLE_BYTES: usize = 2 * TYPES_MOST * (SLOTS_MOST + 1);
 /// The most bytes of masks that [`settle_into`] and [`session_into`] write: 4 for each of 256 slots.
 pub const MASKS_BYTES: usize = 4 * SLOTS_MOST;
 
-/// The most bytes of calls that [`session`] takes: 4 for each of 4096 calls. [`Live::run`] takes longer lists too.
+/// The most bytes of calls that [`session`] and [`probe_into`] take: 4 for each of 4096 calls. [`Live::run`] takes
+/// longer lists too.
 pub const CALLS_BYTES: usize = 4 * 4096;
 
 /// The most bytes of answers that [`session_into`] writes: two words of 4 bytes for each of 4096 calls.
 pub const ANSWERS_BYTES: usize = 2 * 4 * 4096;
+
+/// The most bytes that [`probe_into`] writes: one for each of 4096 calls.
+pub const PROBES_BYTES: usize = 4096;
 
 /// Live or dead: a good book, or a session after a list.
 #[derive(Clone, Copy, Debug, PartialEq, Eq, Hash)]

@@ -5,7 +5,7 @@ use std::fmt;
 const REFUSED: u32 = 256;
 
 /// Why a book, what was lent with it, or a text to import is refused. A single call of a session is refused with a
-/// [`CallRefusal`].
+/// [`CallRefusal`]; one of a list to be probed refuses the list.
 ///
 /// ```
 /// use nested_gcc::Refusal;
@@ -37,6 +37,13 @@ pub enum Refusal {
     /// 10: call list not whole calls, or over 16,384 bytes; [`Live::run`](crate::Live::run) takes longer ones, up to 2^63
     /// calls of a session.
     CallList,
+    /// 11: a call to be probed is of a kind other than 1. Only [`probe_into`](crate::probe_into) answers it.
+    CallKind,
+    /// 12: slot n or more. Only [`probe`](crate::probe), [`probe_into`](crate::probe_into) and [`menu`](crate::menu)
+    /// answer it.
+    CallSlot,
+    /// 13: type k or more. Only [`probe`](crate::probe) and [`probe_into`](crate::probe_into) answer it.
+    CallType,
     /// 17: quoting or a line end breaks RFC 4180. Line ends are CRLF.
     Quoting,
     /// 18: a record has the wrong number of fields, or a field, other than an empty upper, is not one to five digits.
@@ -44,7 +51,7 @@ pub enum Refusal {
 }
 
 /// Each refusal with its number and its words.
-const TABLE: [(Refusal, u32, &str); 12] = [
+const TABLE: [(Refusal, u32, &str); 15] = [
     (Refusal::TooShort, 1, "book under 12 bytes"),
     (Refusal::OutOfRange, 2, "n, k or r out of range"),
     (Refusal::IdleType, 3, "byte 3 above k"),
@@ -55,6 +62,9 @@ const TABLE: [(Refusal, u32, &str); 12] = [
     (Refusal::RowBound, 8, "lower above 256; upper above 256, not 65535"),
     (Refusal::OutputTooShort, 9, "a lent output too short"),
     (Refusal::CallList, 10, "call list not whole calls, or over 16,384 bytes"),
+    (Refusal::CallKind, 11, "kind not 1"),
+    (Refusal::CallSlot, 12, "slot n or more"),
+    (Refusal::CallType, 13, "type k or more"),
     (Refusal::Quoting, 17, "quoting or a line end breaks RFC 4180"),
     (Refusal::Field, 18, "wrong number of fields, or a field not one to five digits"),
 ];

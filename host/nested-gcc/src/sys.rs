@@ -60,6 +60,14 @@ extern "C" {
         masks: *mut u8,
         masks_len: usize,
     ) -> u32;
+    fn nested_gcc_probe(
+        book: *const u8,
+        book_len: usize,
+        calls: *const u8,
+        calls_len: usize,
+        dead: *mut u8,
+        dead_len: usize,
+    ) -> u32;
     fn nested_gcc_import_csv(text: *const u8, text_len: usize, book: *mut u8, book_len: usize) -> u32;
     fn nested_gcc_open_in(
         book: *const u8,
@@ -165,6 +173,22 @@ pub fn session(book: &[u8], calls: &[u8], answers: &mut [u8], masks: &mut [u8]) 
             answers.len(),
             masks.as_mut_ptr(),
             masks.len(),
+        )
+    }
+}
+
+/// 0 where a session on the book opens live, 1 where it opens dead, else 256 + the refusal number.
+pub fn probe(book: &[u8], calls: &[u8], dead: &mut [u8]) -> u32 {
+    // SAFETY: as for `check`, also for the calls; the output is a slice too, writable, and apart from the two others,
+    // since it is borrowed mutably.
+    unsafe {
+        nested_gcc_probe(
+            book.as_ptr(),
+            book.len(),
+            calls.as_ptr(),
+            calls.len(),
+            dead.as_mut_ptr(),
+            dead.len(),
         )
     }
 }

@@ -5,7 +5,7 @@ mod defined;
 use defined::{defined, text, HEADER};
 use nested_gcc::{
     CallRefusal, Refusal, ANSWERS_BYTES, BOOK_BYTES, CALLS_BYTES, MARKS_MOST, MASKS_BYTES, NO_UPPER,
-    ROWS_MOST, SLOTS_MOST, TABLE_BYTES, TYPES_MOST,
+    PROBES_BYTES, ROWS_MOST, SLOTS_MOST, TABLE_BYTES, TYPES_MOST,
 };
 
 #[test]
@@ -21,6 +21,7 @@ fn the_sizes_are_the_same_in_the_header_and_here() {
         ("NESTED_GCC_MASKS_BYTES", MASKS_BYTES, 1024),
         ("NESTED_GCC_CALLS_BYTES", CALLS_BYTES, 16384),
         ("NESTED_GCC_ANSWERS_BYTES", ANSWERS_BYTES, 32768),
+        ("NESTED_GCC_PROBES_BYTES", PROBES_BYTES, 4096),
     ];
     for (name, here, typed) in sizes {
         assert_eq!((defined(name), here), (typed, typed), "{name}");
@@ -43,6 +44,10 @@ fn the_refusals_are_the_same_in_the_header_and_here() {
         ("CALL_KIND", CallRefusal::Kind.number(), 11),
         ("CALL_SLOT", CallRefusal::Slot.number(), 12),
         ("CALL_TYPE", CallRefusal::Type.number(), 13),
+        // Those of a list to be probed are the same numbers.
+        ("CALL_KIND", Refusal::CallKind.number(), 11),
+        ("CALL_SLOT", Refusal::CallSlot.number(), 12),
+        ("CALL_TYPE", Refusal::CallType.number(), 13),
         ("NO_OPEN_MARK", CallRefusal::NoOpenMark.number(), 14),
         ("WHILE_DEAD", CallRefusal::WhileDead.number(), 15),
         ("TOO_MANY_MARKS", CallRefusal::TooManyMarks.number(), 16),

@@ -68,6 +68,14 @@ extern "C" {
         masks: *mut u8,
         masks_len: usize,
     ) -> u32;
+    fn nested_gcc_probe(
+        book: *const u8,
+        book_len: usize,
+        calls: *const u8,
+        calls_len: usize,
+        dead: *mut u8,
+        dead_len: usize,
+    ) -> u32;
 }
 
 /// One slot, two types, no rows: live, with mask 3.
@@ -221,6 +229,46 @@ fn session_with_null() {
     // Nothing NULL: the value 3.
     let whole = (0, [2, 0, 0, 0, 3, 0, 0, 0, OLD], [3, 0, 0, 0, OLD]);
     assert_eq!(session(Some(&LIVE), Some(&CALL), true, true), whole);
+}
+
+/// `nested_gcc_probe` with `None` as NULL and 0, and what it left in the output if that is lent.
+fn probe(book: Option<&[u8]>, calls: Option<&[u8]>, with_dead: bool) -> (u32, [u8; 2]) {
+    let mut dead = [OLD; 2];
+    let (dead_at, dead_len) = if with_dead { (dead.as_mut_ptr(), 2) } else { (null_mut(), 0) };
+    let (book_at, book_len) = book.map_or((null(), 0), |book| (book.as_ptr(), book.len()));
+    let (calls_at, calls_len) = calls.map_or((null(), 0), |calls| (calls.as_ptr(), calls.len()));
+    // SAFETY: each pointer has so many bytes, apart from the others, or is NULL with length 0.
+    let answer = unsafe { nested_gcc_probe(book_at, book_len, calls_at, calls_len, dead_at, dead_len) };
+    (answer, dead)
+}
+
+#[test]
+fn probe_with_null() {
+    let old = [OLD; 2];
+    // Type 0 in slot 0.
+    let pick = [1, 0, 0, 0];
+    for with_dead in [false, true] {
+        // No book: 1, whatever else is NULL.
+        assert_eq!(probe(None, None, with_dead), (257, old));
+        assert_eq!(probe(None, Some(&pick), with_dead), (257, old));
+        assert_eq!(probe(None, Some(&CALL[..3]), with_dead), (257, old));
+        // A list without calls is good, and needs no output.
+        assert_eq!(probe(Some(&LIVE), None, with_dead), (0, old));
+        assert_eq!(probe(Some(&DEAD), None, with_dead), (1, old));
+        for book in [&LIVE[..], &DEAD[..]] {
+            // 10; 11, a show; 12, slot 1; 13, type 2. They come before 9.
+            assert_eq!(probe(Some(book), Some(&pick[..3]), with_dead), (266, old));
+            assert_eq!(probe(Some(book), Some(&CALL), with_dead), (267, old));
+            assert_eq!(probe(Some(book), Some(&[1, 0, 1, 0]), with_dead), (268, old));
+            assert_eq!(probe(Some(book), Some(&[1, 2, 0, 0]), with_dead), (269, old));
+        }
+    }
+    // 9: there is no room for the byte.
+    assert_eq!(probe(Some(&LIVE), Some(&pick), false), (265, old));
+    assert_eq!(probe(Some(&DEAD), Some(&pick), false), (265, old));
+    // Nothing NULL.
+    assert_eq!(probe(Some(&LIVE), Some(&pick), true), (0, [0, OLD]));
+    assert_eq!(probe(Some(&DEAD), Some(&pick), true), (1, [1, OLD]));
 }
 
 /// A state, all of its numbers 7.

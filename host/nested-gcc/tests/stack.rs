@@ -5,12 +5,14 @@ mod chains;
 
 use std::ffi::c_void;
 use std::fmt::Debug;
+use std::ops::Range;
 use std::ptr;
 use std::thread;
 
 use nested_gcc::{
-    check, close_into, import_csv_into, session_into, settle_into, Book, CallRefusal, Calls, Decided, Live,
-    Refusal, Standing, Verdict, ANSWERS_BYTES, BOOK_BYTES, MASKS_BYTES, TABLE_BYTES,
+    check, close_into, import_csv_into, probe_into, session_into, settle_into, Book, CallRefusal, Calls,
+    Decided, Live, Refusal, Standing, Verdict, ANSWERS_BYTES, BOOK_BYTES, MASKS_BYTES, PROBES_BYTES,
+    TABLE_BYTES,
 };
 use random_books::{bytes, masks_around, near_plan, plan, with_idle, Random};
 
@@ -23,6 +25,7 @@ const IMPORT: usize = 4 * 1024;
 const CLOSE: usize = 48 * 1024;
 const SETTLE: usize = 320 * 1024;
 const SESSION: usize = 512 * 1024;
+const PROBE: usize = 320 * 1024;
 const OPEN: usize = 256 * 1024;
 const STEP: usize = 256 * 1024;
 
@@ -249,6 +252,54 @@ fn session_needs_at_most_the_promised_stack() {
     measure(SESSION, |book| session_into(book, calls.as_bytes(), &mut answers, &mut masks[1..]), &short);
 }
 
+/// Assigns of each type to each of the slots.
+fn every_pick(slots: Range<u16>, types: u8) -> Calls {
+    let mut calls = Calls::new();
+    for slot in slots {
+        for board_type in 0..types {
+            calls.assign(slot, board_type);
+        }
+    }
+    calls
+}
+
+#[test]
+fn probe_needs_at_most_the_promised_stack() {
+    let longest = almost_longest().row(31, 256, 8, None);
+    let late_fault = almost_longest().row(31, 256, 257, None);
+    // 32 types with at least 8 each in 256 slots leave no room for a ninth.
+    let dead = almost_longest().row(31, 256, 9, None);
+    // With types 0 and 1 in slot 0 the chain begins where that slot is probed.
+    let strikes = chains::strikes().mask(0, 3);
+    let fixes = chains::fixes().mask(0, 3);
+    let ends_dead = strikes.clone().mask(255, 1 << 30);
+    let books = [
+        ("probe: the longest book", longest.to_bytes(), Ok(Verdict::Live)),
+        ("probe: a dead book", dead.to_bytes(), Ok(Verdict::Dead)),
+        ("probe: a chain of strikes", strikes.to_bytes(), Ok(Verdict::Live)),
+        ("probe: a chain of fixes", fixes.to_bytes(), Ok(Verdict::Live)),
+        ("probe: a chain that ends dead", ends_dead.to_bytes(), Ok(Verdict::Live)),
+        ("probe: a chain of strikes at the opening", chains::strikes().to_bytes(), Ok(Verdict::Live)),
+        ("probe: a chain of fixes at the opening", chains::fixes().to_bytes(), Ok(Verdict::Live)),
+        ("probe: a fault in the last row", late_fault.to_bytes(), Err(Refusal::RowBound)),
+        ("probe: no bytes", Vec::new(), Err(Refusal::TooShort)),
+    ];
+    let mut bytes = [0; PROBES_BYTES];
+    for slots in [0..128, 128..256] {
+        let calls = every_pick(slots, 32);
+        measure(PROBE, |book| probe_into(book, calls.as_bytes(), &mut bytes), &books);
+    }
+    let calls = every_pick(0..1, 1);
+    let shortest = [("probe: the shortest book", Book::new(1, 1).to_bytes(), Ok(Verdict::Live))];
+    measure(PROBE, |book| probe_into(book, calls.as_bytes(), &mut bytes), &shortest);
+    let calls = every_pick(0..128, 32);
+    let short = [("probe: an output too short", longest.to_bytes(), Err(Refusal::OutputTooShort))];
+    measure(PROBE, |book| probe_into(book, calls.as_bytes(), &mut bytes[1..]), &short);
+    let calls = every_pick(0..1, 33);
+    let bad = [("probe: a call that is refused", longest.to_bytes(), Err(Refusal::CallType))];
+    measure(PROBE, |book| probe_into(book, calls.as_bytes(), &mut bytes), &bad);
+}
+
 /// The opening of a kept session. What the Rust crate does beside calling the library, an allocation, is counted too.
 #[test]
 fn open_needs_at_most_the_promised_stack() {
@@ -339,14 +390,21 @@ fn random_book_and_calls(random: &mut Random) -> (Vec<u8>, Calls) {
     (bytes(&with_idle(book, calls.len())), calls)
 }
 
+/// Each decision of the list as an assign.
+fn picks(calls: &Calls) -> Vec<u8> {
+    let decisions = calls.as_bytes().chunks_exact(4).filter(|call| [1, 2].contains(&call[0]));
+    decisions.flat_map(|call| [1, call[1], call[2], call[3]]).collect()
+}
+
 #[test]
 fn random_books_need_at_most_the_promised_stack() {
     let mut random = Random::new(1_234_567);
     let mut answers = vec![0; ANSWERS_BYTES];
     let mut masks = [0; MASKS_BYTES];
-    let (mut settling, mut session, mut opening, mut steps) =
-        (Vec::new(), Vec::new(), Vec::new(), Vec::new());
+    let (mut settling, mut session, mut probes, mut opening, mut steps) =
+        (Vec::new(), Vec::new(), Vec::new(), Vec::new(), Vec::new());
     let mut words = vec![0; ANSWERS_BYTES / 4];
+    let mut dead = [0; PROBES_BYTES];
     for _ in 0..BOOKS {
         let (book, calls) = random_book_and_calls(&mut random);
         let mut answer = None;
@@ -355,6 +413,9 @@ fn random_books_need_at_most_the_promised_stack() {
         session.push(bytes_needed(&mut || {
             answer = Some(session_into(&book, calls.as_bytes(), &mut answers, &mut masks));
         }));
+        assert_eq!(answer, Some(Ok(Verdict::Live)));
+        let picks = picks(&calls);
+        probes.push(bytes_needed(&mut || answer = Some(probe_into(&book, &picks, &mut dead))));
         assert_eq!(answer, Some(Ok(Verdict::Live)));
         let mut kept = None;
         opening.push(bytes_needed(&mut || kept = Live::open(&book).ok()));
@@ -366,6 +427,7 @@ fn random_books_need_at_most_the_promised_stack() {
     let measured = [
         ("settle", settling, SETTLE),
         ("session", session, SESSION),
+        ("probe", probes, PROBE),
         ("open", opening, OPEN),
         ("step", steps, STEP),
     ];

@@ -8,6 +8,7 @@
 //! - [`settle`]: the largest stable list, or dead.
 //! - [`Machine`]: the plain machine of sessions, call by call.
 //! - [`Kept`]: a kept session, the plain machine with the number of calls made and the standing.
+//! - [`probe`]: which of a list of assigns die, each alone on the opened book, or the number of the list's refusal.
 //! - [`import_csv`]: the book that a CSV text orders, or the number of its refusal.
 
 mod book;
@@ -15,6 +16,7 @@ mod closing;
 mod csv;
 mod kept;
 mod machine;
+mod probes;
 mod settling;
 
 pub use book::{refusal, Book, Row};
@@ -22,4 +24,5 @@ pub use closing::{close, start, Closing, Table};
 pub use csv::import_csv;
 pub use kept::{Kept, Standing};
 pub use machine::{Machine, Walls};
+pub use probes::{probe, Probes};
 pub use settling::{settle, Death, Settling};

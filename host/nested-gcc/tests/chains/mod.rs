@@ -1,6 +1,8 @@
 //! Books of 256 slots in which settling one slot settles the next, from slot 0 to the end: types are counted
 //! modulo 32.
 
+#![allow(dead_code)] // not every test uses all of it
+
 use nested_gcc::Book;
 
 /// Slot s has the types s - 1 and s, and slot 0 only type 0. Each time that a type comes, it may stand in one
