@@ -1,3 +1,4 @@
 pub mod FaultLaws
 pub mod IdleLaws
 pub mod ProbeLaws
+mod Worked
