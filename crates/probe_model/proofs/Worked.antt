@@ -97,8 +97,8 @@ right (c ∷ cs) =
     eqb (probe limits (c .lent) (c .calls) (c .output) .0) (c .answer) && sameList (probe limits (c .lent) (c .calls) (c .output) .1) (c .back) && right cs
 
 pub every-case-right : right cases ≡ true
-unfolding sameList right bind Option·elim ones news newsTotal testBit clearBit count only listOf firstOf headerFault maskFault rowFault refusal others lowOf highOf
-    startLowers startUppers newLower newUpper stepLowers stepUppers crossed same closingWithin listSum closing lineBounds tableBounds fixTo
+unfolding sameList right bind Option·elim ones news newsTotal testBit clearBit count only listOf firstOf headerFault maskFault rowFault refusal others lowOf
+    highOf startLowers startUppers newLower newUpper stepLowers stepUppers crossed same closingWithin listSum closing lineBounds tableBounds fixTo
     strikeUnfixed mapBefore cutIf cutLow cutHigh pass settlingPasses fixpoint noneEmpty noneBroken settling settledBook keepOnly cut callOf
     first callRefusal decided restored act stepBy step runs opened run callFault probeFault probe
 every-case-right = refl
