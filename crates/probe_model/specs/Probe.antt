@@ -1,6 +1,6 @@
 -- What the probe entry answers and writes (document 02, request four), from the bytes of a book, of a list of assign calls, and of the output as it is lent.
 --   kindIn, valueIn, slotIn   the kind, the type and the slot of call i, as `callAt` has them
---   deadByte r             1 for the answer dead, else 0
+--   deadByte r             1 for the answer dead, else 0. byteOn: the same where the book opened live, and 1 where it opened dead
 --   probeByte b c          the call's byte: 1 where the plain machine, on the fresh opening of the book, answers the one-call list dead, else 0;
 --                          of a book opened dead, 1
 --   probeBytes b calls     the bytes of all calls, in list order
@@ -8,7 +8,7 @@
 --                          0 where none does. callFaultAt: of call i
 --   probeFault             the number that refuses: the book's own, 10 as of a session, that of the first refused call, 9 where there is not a byte a call
 --   probeGood b calls D    where no number refuses: 0, or 1 for a book opened dead, and the output as it comes back, the bytes in its front
---   probe limits b calls D   the answer, and the output as it comes back; refused, it comes back as it was
+--   probe limits b calls D   the answer, and the output as it comes back; refused, 256 + the number and the output as it was (unlessRefused)
 --   Probes                 the answer r and the output D′ are these; ProbesGood: where no number refuses
 -- Assumes nothing.
 use mathlib.Core.Path.{_≡_}
