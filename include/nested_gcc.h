@@ -69,9 +69,9 @@ extern "C" {
 
 /* The version of this header: major, when a signature changes, or what a good input was answered; minor, when an
  * entry is added, or what was refused is accepted or refused by another number; patch else. CHANGELOG.md tells them. */
-#define NESTED_GCC_VERSION "1.4.0"
+#define NESTED_GCC_VERSION "1.5.0"
 #define NESTED_GCC_VERSION_MAJOR 1u
-#define NESTED_GCC_VERSION_MINOR 4u
+#define NESTED_GCC_VERSION_MINOR 5u
 #define NESTED_GCC_VERSION_PATCH 0u
 #define NESTED_GCC_VERSION_NUMBER \
     (NESTED_GCC_VERSION_MAJOR * 65536u + NESTED_GCC_VERSION_MINOR * 256u + NESTED_GCC_VERSION_PATCH)
@@ -267,8 +267,8 @@ uint32_t nested_gcc_settle(const uint8_t *book, size_t book_len, uint8_t *masks,
  * - A mark saves the masks. A back restores those of the latest open mark, and a dead session is live again.
  * - Show and the walls change nothing. They read the masks, also while the session is dead.
  * A refused call changes nothing, and the list goes on. It is refused by the first number that applies, in this
- * order: 11; 15 for assign, remove, mark; 12 for assign, remove, show; 13 for assign, remove, walls; 14 for back; 16
- * for mark.
+ * order: 11; 12 for assign, remove, show; 13 for assign, remove, walls; 15 for assign, remove, mark; 14 for back; 16
+ * for mark. So a slot or type out of range is told as such while the session is dead too.
  *
  * Walls of a type stand on corners of the table of nested_gcc_close, with P and B as for nested_gcc_settle.
  * - An upper corner is a t from 1 with upper(t) = upper(t - 1) and, unless t = n, upper(t + 1) = upper(t) + 1. Its

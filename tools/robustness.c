@@ -14,7 +14,9 @@
  *   256 on the open side of each buffer, are as they were; book and calls too;
  * - both runs answer and write the same;
  * - dead writes zeros; live writes lowers at most uppers, and masks that are not empty and lie within the book's; the
- *   words of a call are such as nested_gcc.h names, and the last masks of a session lie within those of settle;
+ *   last masks of a session lie within those of settle;
+ * - a call is refused exactly where a number applies to it, by the first in the order 11, 12, 13, 15, 14, 16, with the
+ *   flag and the marks that the words before it tell; the words of any other are such as its kind has;
  * - probe's bytes are 1 on a dead book; on a live one each is the first word of its call in a kept session that goes
  *   back after each, and some of a list are that of a session of the one call.
  * Then a good book goes once more through the entries, with another idle type or none. What must hold:
@@ -37,7 +39,7 @@
  * - both runs answer and write the same;
  * - check takes the book, all its masks are full, it is the one that the text was made from, if it was; and its own
  *   records, written plainly, import as the same book.
- * With -DSHAM=1 to 30 a wrong library is judged, and must be found out: see the functions `sham` below.
+ * With -DSHAM=1 to 32 a wrong library is judged, and must be found out: see the functions `sham` below.
  */
 #define _DEFAULT_SOURCE
 #include "nested_gcc.h"
@@ -233,6 +235,22 @@ static void no_idle_walls(struct lent book, struct lent calls, struct lent answe
     }
 }
 
+/* With SHAM, a number told out of order: 15 before 12 and 13 (31), or 13 before 12 (32). */
+static void numbers_out_of_order(struct lent book, struct lent calls, struct lent answers, int dead) {
+    size_t i;
+    for (i = 0; i < calls.length / 4; i++) {
+        const uint8_t *call = calls.at + 4 * i;
+        uint32_t first = word(answers.at, 2 * i), other = first;
+        int decision = call[0] == NESTED_GCC_ASSIGN || call[0] == NESTED_GCC_REMOVE;
+        if (first == NESTED_GCC_CALL_DEAD) dead = 1;
+        if (first == NESTED_GCC_CALL_DONE && call[0] == NESTED_GCC_BACK) dead = 0;
+        if (!decision || first < NESTED_GCC_CALL_SLOT) continue;
+        if (SHAM == 31 && dead) other = NESTED_GCC_WHILE_DEAD;
+        if (SHAM == 32 && call[1] >= book.at[2]) other = NESTED_GCC_CALL_TYPE;
+        memcpy(answers.at + 8 * i, &other, 4);
+    }
+}
+
 /* With SHAM, the idle type left out of every mask that has others. */
 static void no_idle_type(struct lent book, struct lent masks) {
     size_t slot, n = book.at[0] + 256u * book.at[1];
@@ -321,6 +339,7 @@ static uint32_t sham(enum entry entry, struct lent book, struct lent calls, stru
     if (SHAM == 6 && entry == SETTLE && answer == 1) first.at[0] = 1;                 /* dead, and a mask left */
     if (SHAM == 7 && entry == SESSION && answer >= 257 && answer <= 264) return 266;  /* a refusal out of order */
     if (SHAM == 20 && entry == SESSION && answer == 0) no_idle_walls(book, calls, first);
+    if (SHAM >= 31 && entry == SESSION && answer < 2) numbers_out_of_order(book, calls, first, answer == 1);
     if (SHAM == 22 && entry == SETTLE && answer == 0) no_idle_type(book, first);
     return answer;
 }
@@ -439,13 +458,41 @@ static void judge_table(const struct input *input, const struct outcome *close) 
     }
 }
 
+/* What refuses a call of a session that is dead or live and has so many marks open, or 0 if it is made. */
+static uint32_t fault_of_call(const struct input *input, const uint8_t *call, int dead, size_t marks) {
+    uint8_t kind = call[0];
+    int decision = kind == NESTED_GCC_ASSIGN || kind == NESTED_GCC_REMOVE, mark = kind == NESTED_GCC_MARK;
+    int walls = kind == NESTED_GCC_UPPER_WALLS || kind == NESTED_GCC_LOWER_WALLS;
+    if (kind == 0 || kind > 7) return NESTED_GCC_CALL_KIND;
+    if ((decision || kind == NESTED_GCC_SHOW) && half(call, 1) >= book_slots(input)) return NESTED_GCC_CALL_SLOT;
+    if ((decision || walls) && call[1] >= book_types(input)) return NESTED_GCC_CALL_TYPE;
+    if ((decision || mark) && dead) return NESTED_GCC_WHILE_DEAD;
+    if (kind == NESTED_GCC_BACK && marks == 0) return NESTED_GCC_NO_OPEN_MARK;
+    if (mark && marks == NESTED_GCC_MARKS_MOST) return NESTED_GCC_TOO_MANY_MARKS;
+    return 0;
+}
+
+/* Whether a call of this kind that is made may have this first word. */
+static int word_of_kind(uint8_t kind, uint32_t first) {
+    if (kind == NESTED_GCC_ASSIGN || kind == NESTED_GCC_REMOVE) return first < 2;
+    return first == (kind == NESTED_GCC_MARK || kind == NESTED_GCC_BACK ? NESTED_GCC_CALL_DONE : NESTED_GCC_CALL_VALUE);
+}
+
 static void judge_words(const struct input *input, const struct outcome *session) {
-    size_t i;
+    size_t i, marks = 0;
+    int dead = session->answer == 1;
     for (i = 0; i < input->calls_length / 4; i++) {
+        const uint8_t *call = input->calls + 4 * i;
         uint32_t first = word(session->first, 2 * i), second = word(session->first, 2 * i + 1);
-        if (!(first < 4 || (first >= 267 && first <= 272))) fail("call %zu: first word %u", i, (unsigned)first);
+        uint32_t fault = fault_of_call(input, call, dead, marks);
+        if (fault != 0 ? first != fault : !word_of_kind(call[0], first))
+            fail("call %zu: first word %u, and %u refuses it", i, (unsigned)first, (unsigned)fault);
         if (second != 0 && first != 0 && first != 2)
             fail("call %zu: words %u %u", i, (unsigned)first, (unsigned)second);
+        if (first == NESTED_GCC_CALL_DEAD) dead = 1;
+        if (first != NESTED_GCC_CALL_DONE) continue;
+        if (call[0] == NESTED_GCC_MARK) marks++;
+        if (call[0] == NESTED_GCC_BACK) marks--, dead = 0;
     }
 }
 

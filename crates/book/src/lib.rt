@@ -12,7 +12,7 @@ pub use layout::rows;
 pub use layout::slots;
 pub use layout::values;
 ghost use mathlib.Core.Path.{_≡_};
-ghost use Rattle.book.specs.Refusal.{numberOf};
+ghost use Rattle.book.specs.Refusal.{numberOf, _orElse_};
 
 // The largest book that a reader takes.
 pub struct Limits {
@@ -58,4 +58,14 @@ pub fn number(verdict: Verdict) -> u32
         Verdict::BadRowEnd => 7,
         Verdict::BadRowBound => 8,
     }
+}
+
+// The first of two numbers that is not 0.
+pub fn first_of(first: u8, second: u8) -> u8
+    ensures { λ r. ⌜ r ≡ first orElse second ⌝ }
+{
+    if first == 0 {
+        return second;
+    }
+    first
 }

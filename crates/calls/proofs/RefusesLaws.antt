@@ -2,10 +2,12 @@
 use mathlib.Core.Path.{_≡_, refl, ap, _∙_}
 use mathlib.Core.Bool.{Bool, true, false, cond}
 use mathlib.Core.Option.{none}
-use Prim.Native.Nat.{ℕ, zero, suc, _≤_}
+use Prim.Native.Nat.{ℕ, zero, suc, _≤_, _<_}
 use native.Mathlib.Omega.{arith}
 use lib.Dec.{eqb, leb}
 use lib.ListN.{length}
+use Rattle.book.specs.Refusal.{_orElse_}
+use Rattle.book.proofs.RefusalLaws.{orElse-none, orElse-some}
 use Rattle.session_model.specs.Calls.{decide, mark, back, show, walls, unknown, callOf}
 use Rattle.session_model.proofs.CallsLaws.{callOf-unknown}
 use Rattle.session_model.specs.Decisions.{Decision, assign, remove, slotOf, valueOf}
@@ -14,19 +16,24 @@ use Rattle.session_model.specs.State.{Rules, State}
 use Rattle.calls.specs.Refuses.{refusalNumber}
 use Rattle.calls.specs.Refuses.{Refuses}
 
+-- ---- a number that is asked first
+pub asked : (t : Bool) (x a y r : ℕ) → 0 < x → a ≡ cond t x 0 → r ≡ a orElse y → r ≡ cond t x y
+asked true x a y r some is told = told ∙ orElse-some a y (omega (arith, is)) ∙ is
+asked false x a y r some is told = told ∙ orElse-none a y is
+
 -- ---- the machine's number, by the tests that it makes
 module _ (R : Rules) (S : State) where
   decide-number : (d : Decision) (dead outside absent : Bool) → S .dead ≡ dead → leb (R .slots) (slotOf d) ≡ outside
       → leb (R .values) (valueOf d) ≡ absent
-      → cond dead 15 (cond outside 12 (cond absent 13 0)) ≡ refusalNumber (refusal R S (decide d))
+      → cond outside 12 (cond absent 13 (cond dead 15 0)) ≡ refusalNumber (refusal R S (decide d))
   unfolding refusal first
-  decide-number (assign s v) true outside absent is-dead slot value = rw is-dead refl
-  decide-number (assign s v) false true absent is-dead slot value = rw (is-dead, slot) refl
-  decide-number (assign s v) false false true is-dead slot value = rw (is-dead, slot, value) refl
+  decide-number (assign s v) dead true absent is-dead slot value = rw slot refl
+  decide-number (assign s v) dead false true is-dead slot value = rw (slot, value) refl
+  decide-number (assign s v) true false false is-dead slot value = rw (is-dead, slot, value) refl
   decide-number (assign s v) false false false is-dead slot value = rw (is-dead, slot, value) refl
-  decide-number (remove s v) true outside absent is-dead slot value = rw is-dead refl
-  decide-number (remove s v) false true absent is-dead slot value = rw (is-dead, slot) refl
-  decide-number (remove s v) false false true is-dead slot value = rw (is-dead, slot, value) refl
+  decide-number (remove s v) dead true absent is-dead slot value = rw slot refl
+  decide-number (remove s v) dead false true is-dead slot value = rw (slot, value) refl
+  decide-number (remove s v) true false false is-dead slot value = rw (is-dead, slot, value) refl
   decide-number (remove s v) false false false is-dead slot value = rw (is-dead, slot, value) refl
 
   mark-number : (dead full : Bool) → S .dead ≡ dead → leb (R .limit) (length (S .saved)) ≡ full
@@ -82,7 +89,7 @@ kind-high (suc (suc (suc (suc (suc (suc (suc (suc kind)))))))) no-0 no-1 no-2 no
 
 -- ---- Refuses, by the kind
 module _ {n k limit marks : ℕ} {dead : Bool} (kind v slot r : ℕ) where
-  pub refuses-assign : kind ≡ 1 → r ≡ cond dead 15 (cond (leb n slot) 12 (cond (leb k v) 13 0)) → Refuses n k limit marks dead (callOf kind v slot) r
+  pub refuses-assign : kind ≡ 1 → r ≡ cond (leb n slot) 12 (cond (leb k v) 13 (cond dead 15 0)) → Refuses n k limit marks dead (callOf kind v slot) r
   unfolding callOf
   refuses-assign is r-is =
       rw is
@@ -91,7 +98,7 @@ module _ {n k limit marks : ℕ} {dead : Bool} (kind v slot r : ℕ) where
             r-is ∙ decide-number R S (assign slot v) dead (leb n slot) (leb k v) flag (ap (λ (m : ℕ). leb m slot) slots) (ap (λ (m : ℕ). leb m v) values);
       })
 
-  pub refuses-remove : kind ≡ 2 → r ≡ cond dead 15 (cond (leb n slot) 12 (cond (leb k v) 13 0)) → Refuses n k limit marks dead (callOf kind v slot) r
+  pub refuses-remove : kind ≡ 2 → r ≡ cond (leb n slot) 12 (cond (leb k v) 13 (cond dead 15 0)) → Refuses n k limit marks dead (callOf kind v slot) r
   unfolding callOf
   refuses-remove is r-is =
       rw is

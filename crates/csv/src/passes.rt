@@ -4,6 +4,7 @@ use crate::Later;
 use crate::Read;
 use crate::records::fault;
 use crate::records::read_record;
+use book::first_of;
 use book::number;
 use book_bytes::put_row;
 use book_items::row_verdict;
@@ -12,7 +13,7 @@ ghost use Prim.Native.Nat.{_+_, _*_, _≤_};
 ghost use lib.ListN.{length, drop};
 ghost use lib.Seq.{sets};
 ghost use Rattle.book.specs.Lists.{All};
-ghost use Rattle.book.specs.Refusal.{_orElse_, rowFault};
+ghost use Rattle.book.specs.Refusal.{rowFault};
 ghost use Rattle.book_bytes.specs.BookBytes.{rowsBytes, RowFits};
 ghost use Rattle.csv_model.specs.Csv as Csv;
 ghost use Rattle.csv_model.specs.Import.{recordsFault, rowsOfAll};
@@ -45,16 +46,6 @@ pub fn test_later(text: &[u8], from: usize, n: usize, k: usize) -> Later
         rows,
         refused,
     }
-}
-
-// The first of two numbers that is not 0.
-fn first_of(first: u8, second: u8) -> u8
-    ensures { λ r. ⌜ r ≡ first orElse second ⌝ }
-{
-    if first == 0 {
-        return second;
-    }
-    first
 }
 
 // Number 6, 7 or 8 of the row of a record, for n slots and k values; 0 where it has none.

@@ -16,7 +16,7 @@ ghost use Rattle.kept_model.specs.Memory.{memory};
 // The version of this part.
 const MAJOR: u32 = 1;
 
-const MINOR: u32 = 4;
+const MINOR: u32 = 5;
 
 const PATCH: u32 = 0;
 

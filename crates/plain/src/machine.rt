@@ -102,20 +102,20 @@ fn unchanged(session: Session, first: u32, second: u32) -> Told {
     }
 }
 
-// 0, or 256 + the first number that refuses the call, in the order 11, 15, 12, 13, 14, 16.
+// 0, or 256 + the first number that refuses the call, in the order 11, 12, 13, 15, 14, 16.
 fn refusal(session: Session, call: Call) -> u32 {
     let kind = call.kind;
     if kind == 0 || 8 <= kind {
         return 256 + 11;
-    }
-    if session.dead && (kind == 1 || kind == 2 || kind == 3) {
-        return 256 + 15;
     }
     if session.n <= call.slot && (kind == 1 || kind == 2 || kind == 5) {
         return 256 + 12;
     }
     if session.k <= call.board_type && (kind == 1 || kind == 2 || kind == 6 || kind == 7) {
         return 256 + 13;
+    }
+    if session.dead && (kind == 1 || kind == 2 || kind == 3) {
+        return 256 + 15;
     }
     if kind == 4 && session.marks == 0 {
         return 256 + 14;

@@ -1,23 +1,24 @@
 -- A book that opens dead (`dead-opening`): every call leaves the opening's state, so a list's answers are those of single calls on it.
 -- No contract cites this file. Assumes nothing.
-use mathlib.Core.Path.{_≡_, refl, ap, _∙_}
+use mathlib.Core.Path.{_≡_, refl, sym, ap, _∙_}
 use mathlib.Core.Logic.{_↔_}
-use mathlib.Core.Bool.{true, false}
+use mathlib.Core.Bool.{true, false, true≢false}
 use mathlib.Core.List.{List, [], _∷_, _++_}
-use mathlib.Core.Option.{none, some}
-use Prim.Native.Nat.{ℕ}
+use mathlib.Core.Option.{Option, none, some}
+use Prim.Native.Nat.{ℕ, _≤_, _<_}
 use native.Mathlib.Omega.{arith}
 use lib.ListN.{length, getD, getD-replicate}
 use Rattle.settling_model.specs.Book.{settledBook}
-use Rattle.session_model.specs.Decisions.{Decision}
+use Rattle.session_model.specs.Decisions.{Decision, assign, remove, slotOf, valueOf}
 use Rattle.session_model.specs.Calls.{Call, decide, mark, back, show, walls, unknown}
 use Rattle.session_model.specs.State.{Rules, State, Reply, value, done, refused}
-use Rattle.session_model.specs.Refusal.{Refusal, number, first, refusal}
+use Rattle.session_model.specs.Refusal.{Refusal, whileDead, number, applies, first, refusal}
 use Rattle.session_model.specs.Machine.{step, runs, wallless, shut}
 use Rattle.session_model.specs.InForce.{Ledger, whenLive, whenDone, follow, followAll, unmarked}
 use Rattle.session_model.specs.BookRun.{rulesOf, stateAfter}
 use Rattle.session_model.specs.Demand.{At, answerTo, DeadOpening}
-use Rattle.session_model.proofs.RefusalLaws.{refusal-decide-dead, refusal-mark-dead, refusal-back-empty}
+use Rattle.session_model.proofs.OrderLaws.{none-applies-not}
+use Rattle.session_model.proofs.RefusalLaws.{refusal-decide-slot, refusal-decide-value, refusal-decide-dead, refusal-mark-dead, refusal-back-empty}
 use Rattle.session_model.proofs.StepLaws.{step-refused, step-show, step-walls, refused-number, dead-waits}
 use Rattle.session_model.proofs.RunLaws.{runs-reply}
 use Rattle.session_model.proofs.BookRunLaws.{shut-run}
@@ -32,8 +33,26 @@ module _ (R : Rules) where
   abbrev shutStep : Call → State × Reply
   shutStep c = step (wallless R) (shut R) c
 
-  shut-decide : (d : Decision) → shutStep (decide d) ≡ (shut R, refused 15)
-  shut-decide d = step-refused (wallless R) (shut R) (decide d) _ (refusal-decide-dead (wallless R) (shut R) d refl)
+  shut-slot : (d : Decision) → R .slots ≤ slotOf d → shutStep (decide d) ≡ (shut R, refused 12)
+  shut-slot d out = step-refused (wallless R) (shut R) (decide d) _ (refusal-decide-slot (wallless R) (shut R) d out)
+
+  shut-value : (d : Decision) → slotOf d < R .slots → R .values ≤ valueOf d → shutStep (decide d) ≡ (shut R, refused 13)
+  shut-value d inside out = step-refused (wallless R) (shut R) (decide d) _ (refusal-decide-value (wallless R) (shut R) d inside out)
+
+  shut-decide : (d : Decision) → slotOf d < R .slots → valueOf d < R .values → shutStep (decide d) ≡ (shut R, refused 15)
+  shut-decide d inside below = step-refused (wallless R) (shut R) (decide d) _ (refusal-decide-dead (wallless R) (shut R) d refl inside below)
+
+  -- whatever its slot and value, a decision is refused
+  shut-refuses : (d : Decision) → (x : ℕ) × (shutStep (decide d) ≡ (shut R, refused x))
+  shut-refuses d = go (refusal (wallless R) (shut R) (decide d)) refl
+    where
+      waits : (d : Decision) → applies (wallless R) (shut R) (decide d) whileDead ≡ true
+      waits (assign s v) = refl
+      waits (remove s v) = refl
+
+      go : (o : Option Refusal) → refusal (wallless R) (shut R) (decide d) ≡ o → (x : ℕ) × (shutStep (decide d) ≡ (shut R, refused x))
+      go none is = absurd (true≢false (sym (waits d) ∙ none-applies-not (wallless R) (shut R) (decide d) is whileDead))
+      go (some r) is = (number r, step-refused (wallless R) (shut R) (decide d) r is)
 
   shut-mark : shutStep mark ≡ (shut R, refused 15)
   shut-mark = step-refused (wallless R) (shut R) mark _ (refusal-mark-dead (wallless R) (shut R) refl)
@@ -42,7 +61,7 @@ module _ (R : Rules) where
   shut-back = step-refused (wallless R) (shut R) back _ (refusal-back-empty (wallless R) (shut R) refl)
 
   shut-stays : (c : Call) → shutStep c .0 ≡ shut R
-  shut-stays (decide d) = ap (λ (t : State × Reply). t .0) (shut-decide d)
+  shut-stays (decide d) = ap (λ (t : State × Reply). t .0) (shut-refuses d .1)
   shut-stays mark = ap (λ (t : State × Reply). t .0) shut-mark
   shut-stays back = ap (λ (t : State × Reply). t .0) shut-back
   shut-stays (show s) = dead-waits (wallless R) (shut R) (show s) refl (omega arith)
@@ -52,7 +71,7 @@ module _ (R : Rules) where
 
   shut-follow : (c : Call) → follow unmarked c (shutStep c .1) ≡ unmarked
   unfolding follow whenLive whenDone
-  shut-follow (decide d) = ap (λ (t : State × Reply). follow unmarked (decide d) (t .1)) (shut-decide d)
+  shut-follow (decide d) = ap (λ (t : State × Reply). follow unmarked (decide d) (t .1)) (shut-refuses d .1)
   shut-follow mark = ap (λ (t : State × Reply). follow unmarked mark (t .1)) shut-mark
   shut-follow back = ap (λ (t : State × Reply). follow unmarked back (t .1)) shut-back
   shut-follow (show s) = refl
@@ -101,7 +120,9 @@ module _ (b : List ℕ) (limit : ℕ) (dies : settledBook b ≡ none) where
         force =
             ap (λ (t : State × List Reply). followAll unmarked calls (t .1) .force) (shut-run b limit dies calls)
             ∙ ap (λ (L : Ledger). L .force) (follow-shut R calls);
-        decisions = λ before rest d at. told before rest (decide d) at ∙ ap (λ (t : State × Reply). t .1) (shut-decide R d);
+        slots-out = λ before rest d at out. told before rest (decide d) at ∙ ap (λ (t : State × Reply). t .1) (shut-slot R d out);
+        values-out = λ before rest d at inside out. told before rest (decide d) at ∙ ap (λ (t : State × Reply). t .1) (shut-value R d inside out);
+        decisions = λ before rest d at inside below. told before rest (decide d) at ∙ ap (λ (t : State × Reply). t .1) (shut-decide R d inside below);
         marks = λ before rest at. told before rest mark at ∙ ap (λ (t : State × Reply). t .1) (shut-mark R);
         backs = λ before rest at. told before rest back at ∙ ap (λ (t : State × Reply). t .1) (shut-back R);
         shows = λ before rest s at inside.

@@ -16,6 +16,7 @@ pub mod OrderLaws
 pub mod OutputLaws
 pub mod PlanLaws
 pub mod RefusalLaws
+pub mod ReorderLaws
 pub mod RunLaws
 pub mod StandingLaws
 pub mod StepLaws

@@ -17,21 +17,21 @@ module _ (R : Rules) (S : State) where
   unfolding refusal first
   refusal-unknown = refl
 
-  -- a decision: 15, 12, 13
-  pub refusal-decide-dead : (d : Decision) → S .dead ≡ true → refusal R S (decide d) ≡ some whileDead
+  -- a decision: 12, 13, 15
+  pub refusal-decide-slot : (d : Decision) → R .slots ≤ slotOf d → refusal R S (decide d) ≡ some slotOut
   unfolding refusal first
-  refusal-decide-dead (assign s v) up = rw (refusal, up)
-  refusal-decide-dead (remove s v) up = rw (refusal, up)
+  refusal-decide-slot (assign s v) out = rw (refusal, le-leb (R .slots) s out)
+  refusal-decide-slot (remove s v) out = rw (refusal, le-leb (R .slots) s out)
 
-  pub refusal-decide-slot : (d : Decision) → S .dead ≡ false → R .slots ≤ slotOf d → refusal R S (decide d) ≡ some slotOut
+  pub refusal-decide-value : (d : Decision) → slotOf d < R .slots → R .values ≤ valueOf d → refusal R S (decide d) ≡ some valueOut
   unfolding refusal first
-  refusal-decide-slot (assign s v) down out = rw (refusal, down, le-leb (R .slots) s out)
-  refusal-decide-slot (remove s v) down out = rw (refusal, down, le-leb (R .slots) s out)
+  refusal-decide-value (assign s v) inside out = rw (refusal, lt-leb (R .slots) s inside, le-leb (R .values) v out)
+  refusal-decide-value (remove s v) inside out = rw (refusal, lt-leb (R .slots) s inside, le-leb (R .values) v out)
 
-  pub refusal-decide-value : (d : Decision) → S .dead ≡ false → slotOf d < R .slots → R .values ≤ valueOf d → refusal R S (decide d) ≡ some valueOut
+  pub refusal-decide-dead : (d : Decision) → S .dead ≡ true → slotOf d < R .slots → valueOf d < R .values → refusal R S (decide d) ≡ some whileDead
   unfolding refusal first
-  refusal-decide-value (assign s v) down inside out = rw (refusal, down, lt-leb (R .slots) s inside, le-leb (R .values) v out)
-  refusal-decide-value (remove s v) down inside out = rw (refusal, down, lt-leb (R .slots) s inside, le-leb (R .values) v out)
+  refusal-decide-dead (assign s v) up inside below = rw (refusal, up, lt-leb (R .slots) s inside, lt-leb (R .values) v below)
+  refusal-decide-dead (remove s v) up inside below = rw (refusal, up, lt-leb (R .slots) s inside, lt-leb (R .values) v below)
 
   pub refusal-decide-none : (d : Decision) → S .dead ≡ false → slotOf d < R .slots → valueOf d < R .values → refusal R S (decide d) ≡ none
   unfolding refusal first

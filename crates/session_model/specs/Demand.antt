@@ -12,7 +12,7 @@ use mathlib.Core.Logic.{_↔_}
 use mathlib.Core.Bool.{Bool, true}
 use mathlib.Core.List.{List, [], _∷_, _++_}
 use mathlib.Core.Option.{some}
-use Prim.Native.Nat.{ℕ, _+_, _<_}
+use Prim.Native.Nat.{ℕ, _+_, _≤_, _<_}
 use lib.ListN.{length, getD, replicate}
 use Rattle.book.specs.Layout.{slots, values, idle, masks}
 use Rattle.closing_model.specs.Table.{Table, Loosest}
@@ -21,7 +21,7 @@ use Rattle.settling_model.specs.Plans.{singles}
 use Rattle.book.specs.Lists.{All}
 use Rattle.settling_model.specs.Stable.{Bound, tableBounds}
 use Rattle.settling_model.specs.Book.{bookStart}
-use Rattle.session_model.specs.Decisions.{Decision, assign, remove, Meets, LargestUnder, UnstableUnder}
+use Rattle.session_model.specs.Decisions.{Decision, assign, remove, slotOf, valueOf, Meets, LargestUnder, UnstableUnder}
 use Rattle.session_model.specs.Calls.{Call, decide, mark, back, show, walls, kindOf}
 use Rattle.session_model.specs.Walls.{wallCount}
 use Rattle.session_model.specs.News.{newsTotal}
@@ -103,7 +103,13 @@ pub record Demand3 (b : List ℕ) (limit : ℕ) (calls : List Call) : Type 0 whe
 pub record DeadOpening (b : List ℕ) (limit : ℕ) (calls : List Call) : Type 0 where
   pub state : stateAfter b limit calls ≡ record { masks = replicate (slots b) 0; dead = true; saved = [] }
   pub force : forceAfter b limit calls ≡ []
-  pub decisions : (before rest : List Call) (d : Decision) → At calls before (decide d) rest → answerTo b limit calls before ≡ refused 15
+  -- a decision: 12 where its slot is out of range, 13 where its value alone is, else 15
+  pub slots-out : (before rest : List Call) (d : Decision) → At calls before (decide d) rest → slots b ≤ slotOf d
+      → answerTo b limit calls before ≡ refused 12
+  pub values-out : (before rest : List Call) (d : Decision) → At calls before (decide d) rest → slotOf d < slots b → values b ≤ valueOf d
+      → answerTo b limit calls before ≡ refused 13
+  pub decisions : (before rest : List Call) (d : Decision) → At calls before (decide d) rest → slotOf d < slots b → valueOf d < values b
+      → answerTo b limit calls before ≡ refused 15
   pub marks : (before rest : List Call) → At calls before mark rest → answerTo b limit calls before ≡ refused 15
   pub backs : (before rest : List Call) → At calls before back rest → answerTo b limit calls before ≡ refused 14
   pub shows : (before rest : List Call) (s : ℕ) → At calls before (show s) rest → s < slots b → answerTo b limit calls before ≡ value 0

@@ -7,6 +7,7 @@ pub mod InForce
 pub mod Machine
 pub mod News
 pub mod Refusal
+pub mod Reorder
 pub mod Standing
 pub mod State
 pub mod Walls

@@ -26,9 +26,9 @@ number noMark = 14
 number whileDead = 15
 number marksFull = 16
 
--- within a call: 11, 15, 12, 13, 14, 16
+-- within a call: 11, 12, 13, 15, 14, 16
 abbrev pub order : List Refusal
-order = unknownKind ∷ whileDead ∷ slotOut ∷ valueOut ∷ noMark ∷ marksFull ∷ []
+order = unknownKind ∷ slotOut ∷ valueOut ∷ whileDead ∷ noMark ∷ marksFull ∷ []
 
 -- the slot, or the value, that a call uses is n or more, or k or more
 abbrev pub slotFails : ℕ → Call → Bool

@@ -229,9 +229,9 @@ impl Engine {
     pub fn call(&mut self, [kind, board_type, low, high]: [u8; 4]) -> [u32; 2] {
         let (v, s) = (usize::from(board_type), usize::from(u16::from_le_bytes([low, high])));
         match kind {
-            1..=3 if self.dead => [256 + 15, 0],
             1 | 2 | 5 if s >= self.n => [256 + 12, 0],
             1 | 2 | 6 | 7 if v >= self.k => [256 + 13, 0],
+            1..=3 if self.dead => [256 + 15, 0],
             1 => self.decide(s, self.masks[s] & 1 << v),
             2 => self.decide(s, self.masks[s] & !(1 << v)),
             3 if self.marks.len() == MARKS => [256 + 16, 0],

@@ -128,6 +128,7 @@ impl Live {
     /// assert_eq!(session.assign(1, 1)?, Decided::Dead);
     /// assert_eq!(session.standing(), Standing::Dead { call: 2 });
     /// assert_eq!(session.assign(1, 0), Err(CallRefusal::WhileDead));
+    /// assert_eq!(session.assign(3, 0), Err(CallRefusal::Slot));
     /// session.back()?;
     /// assert_eq!((session.standing(), session.masks()), (Standing::Live, &[3, 3, 3][..]));
     /// # Ok::<(), Box<dyn std::error::Error>>(())

@@ -100,6 +100,9 @@ impl Error for Refusal {}
 
 /// Why one call of a session is refused. Such a call changes nothing, and the list goes on.
 ///
+/// Where several apply, it is the first in the order 11, 12, 13, 15, 14, 16: a slot or type out of range is told while
+/// the session is dead too.
+///
 /// ```
 /// use nested_gcc::CallRefusal;
 ///

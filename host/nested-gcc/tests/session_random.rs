@@ -80,6 +80,10 @@ impl Met {
                     refused != 267 && refused != 270,
                     &format!("refused {} of kind {kind}", refused - 256),
                 );
+                self.count_if(
+                    refused != 271 && kind < 3,
+                    &format!("refused {} of kind {kind} while {what}", refused - 256),
+                );
             }
         }
     }
@@ -221,9 +225,13 @@ fn cases() -> Vec<String> {
         let states = ["live", "dead"].map(|state| format!("walls of kind {kind} while {state}"));
         counts.into_iter().chain(states)
     });
+    let decisions = ["live", "dead"].into_iter().flat_map(|state| {
+        [(12, 1), (12, 2), (13, 1), (13, 2)]
+            .map(|(number, kind)| format!("refused {number} of kind {kind} while {state}"))
+    });
     let refused = (11..=16).map(|number| format!("refused {number}"));
     let kinds = [0, 8, 9, 127, 128, 129, 255].map(|kind| format!("kind {kind}"));
-    fixed.into_iter().map(String::from).chain(walls).chain(refused).chain(kinds).collect()
+    fixed.into_iter().map(String::from).chain(walls).chain(decisions).chain(refused).chain(kinds).collect()
 }
 
 #[test]

@@ -67,16 +67,16 @@ impl Machine {
         }
     }
 
-    /// 0, or the first number that refuses the call, in the order 11, 15, 12, 13, 14, 16.
+    /// 0, or the first number that refuses the call, in the order 11, 12, 13, 15, 14, 16.
     fn refusal(&self, kind: u8, v: usize, slot: usize) -> u32 {
         if !(1..=7).contains(&kind) {
             11
-        } else if [1, 2, 3].contains(&kind) && self.dead {
-            15
         } else if [1, 2, 5].contains(&kind) && slot >= self.masks.len() {
             12
         } else if [1, 2, 6, 7].contains(&kind) && v >= self.k {
             13
+        } else if [1, 2, 3].contains(&kind) && self.dead {
+            15
         } else if kind == 4 && self.pile.is_empty() {
             14
         } else if kind == 3 && self.pile.len() >= MARKS {

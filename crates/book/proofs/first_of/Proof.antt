@@ -1,8 +1,8 @@
--- `csv::passes::first_of` meets its contract (`orElse-some`). Assumes nothing.
+-- `book::first_of` meets its contract (`orElse-some`). Assumes nothing.
 use mathlib.Core.Path.{sym}
 use Rattle.book.proofs.RefusalLaws.{orElse-none, orElse-some}
-use Rattle.csv.proofs.passes.first_of.Statement.{statement}
-use Rattle.csv.proofs.passes.first_of.Tie as tie
+use Rattle.book.proofs.first_of.Statement.{statement}
+use Rattle.book.proofs.first_of.Tie as tie
 
 returns : tie.Need-returns
 returns c = sym (orElse-none _ _ (c .if1 .taken))
