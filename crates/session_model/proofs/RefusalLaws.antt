@@ -1,4 +1,4 @@
--- Which number refuses a call and when none does, kind by kind (`refusal` of `specs/Refusal.antt`). These laws follow document 01's order,
+-- Which number refuses a call and when none does, kind by kind (`refusal` of `specs/Refusal.antt`). These laws follow `order`,
 -- and are what a `match` on the kind cites. No contract cites this file. Assumes nothing.
 use mathlib.Core.Path.{_≡_, refl}
 use mathlib.Core.Bool.{Bool, true, false, and-false}

@@ -15,10 +15,11 @@ use Rattle.session_model.specs.Calls.{Call, decide, mark, back, show, wa
 use Rattle.session_model.specs.State.{Rules, State, Reply, done, refused, words}
 use Rattle.session_model.specs.Refusal.{Refusal, slotOut, valueOut, whileDead, number, slotFails, first, refusal}
 use Rattle.session_model.specs.Machine.{stepBy, step, runs, opened, run}
-use Rattle.session_model.specs.InForce.{Ledger, whenLive, whenDone, follow, followAll, unmarked}
+use Rattle.session_model.specs.InForce.{Ledger, follow, followAll, unmarked}
 use Rattle.session_model.specs.Standing.{Standing, stand, standFrom, opening}
 use Rattle.session_model.specs.BookRun.{rulesOf, stateAfter}
 use Rattle.session_model.specs.Reorder.{refusalBefore, stepBefore, runsBefore, runBefore, changed, Renumbered, Reordered}
+use Rattle.session_model.proofs.InForceLaws.{follow-refused}
 use Rattle.session_model.proofs.RunLaws.{runs-reply, length-replies}
 
 -- ---- one call
@@ -114,16 +115,7 @@ module _ (R : Rules) (S : State) where
   pub renumbered : (c : Call) → Renumbered R S c (stepBefore R S c .1) (step R S c .1)
   renumbered c = both c .1
 
--- ---- what a list's calls leave: a refusal is one, whatever its number
-follow-refused : (L : Ledger) (c : Call) (x : ℕ) → follow L c (refused x) ≡ L
-unfolding follow whenLive whenDone
-follow-refused L (decide d) x = refl
-follow-refused L mark x = refl
-follow-refused L back x = refl
-follow-refused L (show s) x = refl
-follow-refused L (walls kind v) x = refl
-follow-refused L unknown x = refl
-
+-- ---- a list of calls
 module _ (R : Rules) where
   -- what takes each refusal alike takes the two answers to a call alike
   unnumbered : {A : Type 0} (f : Reply → A) (S : State) (c : Call) → ((x y : ℕ) → f (refused x) ≡ f (refused y)) → f (stepBefore R S c .1) ≡ f (step R S c .1)

@@ -1,6 +1,6 @@
 -- Which call is refused, by document 01's numbers 11 to 16 ('Entries and their numbers').
 --   Refusal          the six; number: document 01's number of each
---   order            the order in which they are asked within a call
+--   order            the order in which they are asked within a call (document 02, request five)
 --   slotFails, valueFails   the slot, or the value, that a call uses is out of range; of a call that uses none, never
 --   applies R S c r  r applies to the call c on the state S; a field that a kind does not use never refuses it
 --   refusal R S c    the first that applies, in that order; first: the first of a list that passes a test

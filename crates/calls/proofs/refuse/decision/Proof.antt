@@ -31,9 +31,9 @@ returns c =
     let absent = leb (given .k) (given .v) in
     let slot = c .before .before .before .before .known-slot .ensures in
     let value = c .before .before .before .known-value .ensures in
-    let later = asked absent 13 _ _ _ (omega arith) value (c .before .first-of .ensures) in
-    asked outside 12 _ _ _ (omega arith) slot (c .first-of2 .ensures)
-    ∙ ap (λ (x : ℕ). cond outside 12 x) (later ∙ ap (λ (x : ℕ). cond absent 13 x) (c .before .before .still-live .ensures))
+    let first = asked outside 12 _ _ _ (omega arith) slot (c .first-of2 .ensures) in
+    let second = asked absent 13 _ _ _ (omega arith) value (c .before .first-of .ensures) in
+    first ∙ ap (λ (x : ℕ). cond outside 12 x) (second ∙ ap (λ (x : ℕ). cond absent 13 x) (c .before .before .still-live .ensures))
 
 pub decision-spec : {M : Type 1} → statement M
 decision-spec = tie.close (tie.spec known-slot-requires known-value-requires still-live-requires first-of-requires first-of-requires-2 returns)
