@@ -4,7 +4,7 @@
  *
  * docs/SPECIFICATION.md has the rules in full: 1 Words and numbers, 2 The book, 3 Closing,
  * 4 Settling and plans, 5 The session, 6 Walls, 7 Entries, 8 Refusals, 9 Worked examples, 10 The program planrun,
- * 11 The kept session, 12 The version, 13 The import of CSV, 14 The probes.
+ * 11 The kept session, 12 The version, 13 The import of CSV, 14 The probes, 15 The canonical book.
  * docs/ASSUMPTIONS.md lists what a host must keep.
  *
  * nested_gcc_check       whether the bytes are a good book
@@ -15,6 +15,7 @@
  * nested_gcc_step        then stepped by lists of calls,
  * nested_gcc_call        or by single calls, from where the last left it
  * nested_gcc_probe       which assignments of a list would die, each alone on a settled book
+ * nested_gcc_canonical   the one book for all that close to the same bounds, for an archive
  * nested_gcc_import_csv  the book that orders in CSV say, written to memory of the host
  * nested_gcc_version     the version of the archive
  *
@@ -40,7 +41,8 @@
  * - The library keeps nothing between calls and allocates nothing: a kept session is in the state that the host owns.
  *   So any number of threads may call at once, each with outputs and a state of its own.
  * - A book is only read, and only during the call, and so are a list of calls and a text. No thread may change them
- *   meanwhile. Functions that run at once may share them. The book of nested_gcc_import_csv alone is an output.
+ *   meanwhile. Functions that run at once may share them. Only nested_gcc_import_csv and nested_gcc_canonical write
+ *   a book, and that is an output.
  * - An output is written only during the call, and only where the function's comment says so. What it
  *   holds before plays no part in the answer or in what is written. It may not overlap the book, the calls, the text or
  *   another output, and no other thread may use it meanwhile. All of this but the second sentence holds of a state.
@@ -69,9 +71,9 @@ extern "C" {
 
 /* The version of this header: major, when a signature changes, or what a good input was answered; minor, when an
  * entry is added, or what was refused is accepted or refused by another number; patch else. CHANGELOG.md tells them. */
-#define NESTED_GCC_VERSION "1.5.0"
+#define NESTED_GCC_VERSION "1.6.0"
 #define NESTED_GCC_VERSION_MAJOR 1u
-#define NESTED_GCC_VERSION_MINOR 5u
+#define NESTED_GCC_VERSION_MINOR 6u
 #define NESTED_GCC_VERSION_PATCH 0u
 #define NESTED_GCC_VERSION_NUMBER \
     (NESTED_GCC_VERSION_MAJOR * 65536u + NESTED_GCC_VERSION_MINOR * 256u + NESTED_GCC_VERSION_PATCH)
@@ -95,12 +97,12 @@ uint32_t nested_gcc_version(void);
 #define NESTED_GCC_LIVE 0u
 #define NESTED_GCC_DEAD 1u
 
-/* A refusal is NESTED_GCC_REFUSED + its number: 1 to 10, 17, 18; of nested_gcc_probe also 11, 12, 13, which refuse one
- * call elsewhere. The answer is the first that applies in this order: 1 to 4; 5 for the masks by slot; 6, 7, 8 for the
- * first row, then for the next; 10; of nested_gcc_probe 11, 12, 13 for the first call, then for the next; 9. That of
- * nested_gcc_import_csv, which alone has 17 and 18, is: 17, 18 for the first record, then for the next; 2; 6, 7, 8 for
- * the first row, then for the next; 9. A function that refuses writes nothing; only nested_gcc_call puts its two words
- * all the same. */
+/* A refusal is NESTED_GCC_REFUSED + its number: 1 to 10, 17 to 19; of nested_gcc_probe also 11, 12, 13, which refuse
+ * one call elsewhere. The answer is the first that applies in this order: 1 to 4; 5 for the masks by slot; 6, 7, 8 for
+ * the first row, then for the next; 10; of nested_gcc_probe 11, 12, 13 for the first call, then for the next; of
+ * nested_gcc_canonical, which alone has 19, first NESTED_GCC_DEAD, then 19; 9. That of nested_gcc_import_csv, which
+ * alone has 17 and 18, is: 17, 18 for the first record, then for the next; 2; 6, 7, 8 for the first row, then for the
+ * next; 9. A function that refuses writes nothing; only nested_gcc_call puts its two words all the same. */
 #define NESTED_GCC_REFUSED 256u
 #define NESTED_GCC_TOO_SHORT (NESTED_GCC_REFUSED + 1u)        /* book under 12 bytes */
 #define NESTED_GCC_OUT_OF_RANGE (NESTED_GCC_REFUSED + 2u)     /* n, k or r out of range */
@@ -114,6 +116,7 @@ uint32_t nested_gcc_version(void);
 #define NESTED_GCC_CALL_LIST (NESTED_GCC_REFUSED + 10u)       /* call list not whole calls, or too long */
 #define NESTED_GCC_QUOTING (NESTED_GCC_REFUSED + 17u)         /* quoting or a line end breaks RFC 4180 */
 #define NESTED_GCC_FIELD (NESTED_GCC_REFUSED + 18u)           /* wrong number of fields, or a field not 1 to 5 digits */
+#define NESTED_GCC_TOO_MANY_ROWS (NESTED_GCC_REFUSED + 19u)   /* a canonical book of over NESTED_GCC_ROWS_MOST rows */
 
 /* The older name of number 3. */
 #define NESTED_GCC_RESERVED_BYTE NESTED_GCC_IDLE_TYPE
@@ -158,7 +161,8 @@ uint32_t nested_gcc_check(const uint8_t *book, size_t book_len);
  */
 uint32_t nested_gcc_import_csv(const uint8_t *text, size_t text_len, uint8_t *book, size_t book_len);
 
-/* The length in bytes of a book that nested_gcc_import_csv wrote, or of any other good one: its bytes 10 and 11. */
+/* The length in bytes of a book that nested_gcc_import_csv or nested_gcc_canonical wrote, or of any other good one: its
+ * bytes 10 and 11. */
 static inline size_t nested_gcc_book_length(const uint8_t *book) {
     return (size_t)book[10] + 256u * (size_t)book[11];
 }
@@ -321,6 +325,33 @@ uint32_t nested_gcc_session(const uint8_t *book, size_t book_len,
 uint32_t nested_gcc_probe(const uint8_t *book, size_t book_len,
                           const uint8_t *calls, size_t calls_len,
                           uint8_t *dead, size_t dead_len);
+
+/*
+ * Writes the canonical book of a book, for an archive, into the front of the out_len bytes at out.
+ * NESTED_GCC_BOOK_BYTES of these suffice for every book.
+ *
+ * The canonical book has the n, k, idle byte and masks of the book. It has one row for each type and end where the
+ * table of nested_gcc_close has a corner of either kind (see nested_gcc_session), by type, then end. The row's lower is
+ * the table's at a lower corner, else 0; its upper is the table's at an upper corner, else NESTED_GCC_NO_UPPER.
+ * - It is a good book and closes to the same table. So nested_gcc_settle, sessions and probes answer alike on both.
+ * - Two live books of equal n, k, idle byte and masks, neither refused, get the same bytes exactly when they close to
+ *   the same table.
+ * - No shorter book says the table without sums over the types: any rows that close to it without them have one at
+ *   each of these types and ends. The book itself may have fewer rows, where sums give some of its bounds: those are
+ *   written out.
+ *
+ * Live and dead are those of nested_gcc_close: a book that closes and does not settle has a canonical book too.
+ *
+ * NESTED_GCC_LIVE: writes the canonical book, 12 + 4 * n + 8 * rows bytes. Its length stands in its bytes 10 and 11,
+ *     which nested_gcc_book_length reads; just so many bytes are to be lent to the other functions.
+ * NESTED_GCC_DEAD: nested_gcc_close answers dead. Writes nothing, and out may have any length.
+ * Refusals: 1 to 8; then, of a live book alone, 19 if more than NESTED_GCC_ROWS_MOST rows would be needed; then 9 if
+ *     out_len is below the canonical book's length. The output is not touched.
+ * Bytes past the canonical book stay as they are.
+ *
+ * Stack: at most 48 KiB.
+ */
+uint32_t nested_gcc_canonical(const uint8_t *book, size_t book_len, uint8_t *out, size_t out_len);
 
 /* The elements of a state's fields, where no other macro names them. */
 #define NESTED_GCC_RECORD_NUMBERS 7u

@@ -1,8 +1,8 @@
 #!/usr/bin/env python3
 """Checks that closing declares no array but the two that hold the table; exit 1 where it does.
 
-The table is declared by `close_bytes` (the exported close) and by `book_rises` (settle and sessions). The code looked at is that of these two crates and
-of every crate that they stand on, by crates.txt. An array is whatever stands in brackets and is no index, no type of a slice and no attribute: a type
+The table is declared by `close_bytes` (the exported close), by `book_rises` (settle and sessions) and by `canonical`. The code looked at is that of these
+crates and of every crate that they stand on, by crates.txt. An array is whatever stands in brackets and is no index, no type of a slice and no attribute: a type
 `[T; N]`, also behind a name or a `&`; a value `[x; N]` or `[x, y]`; a string. There is no heap in Rattle, so no other room for a copy of a line.
 What the search takes for an array is tried on some lines first.
 """
@@ -12,7 +12,9 @@ from pathlib import Path
 
 ROOT = Path(__file__).resolve().parent.parent
 TABLE = '[0u16; 8224]'
-ROOTS = ['close_bytes', 'book_rises']
+# the same, where the source has a name for its size
+NAMED, NAME = '[0u16; TABLE]', 'const TABLE: usize = 8224;'
+ROOTS = ['close_bytes', 'book_rises', 'canonical']
 # what document 01's closing is made of: none of these may drop out of sight
 SEEN = ['closing', 'starting', 'filling', 'bounds', 'lines', 'line_tests', 'bands', 'lanes', 'columns', 'column_rules', 'stores']
 
@@ -84,8 +86,9 @@ def main():
         declared = 0
         for source in sorted((ROOT / 'crates' / crate / 'src').rglob('*.rt')):
             sources += 1
-            for number, array in arrays(source.read_text()):
-                if crate in ROOTS and array == TABLE:
+            text = source.read_text()
+            for number, array in arrays(text):
+                if crate in ROOTS and (array == TABLE or array == NAMED and NAME in text.splitlines()):
                     declared += 1
                 else:
                     faults.append(f'{source.relative_to(ROOT)}:{number}: closing declares an array that does not hold the table: {array}')

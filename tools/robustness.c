@@ -7,9 +7,10 @@
  * Check, close, settle, session and probe run twice on each input: once with every buffer against an unreadable page
  * behind it, once with one in front, and NULL for a buffer without a byte; the outputs hold other bytes each time, and
  * for one input in eight the stack does. What must hold:
- * - the answers are those that nested_gcc.h names, and agree with each other: the others refuse a book as check does,
- *   10 and 9 are answered exactly where the lengths say so, 11 to 13 where the first bad call of a list of probes does,
- *   a book dead in closing is dead in settling, and session and probe open as settle answers;
+ * - the answers are those that nested_gcc.h names, and agree with each other: check refuses a book as a plain reading
+ *   does, the others as check does, 10 and 9 are answered exactly where the lengths say so, 11 to 13 where the first
+ *   bad call of a list of probes does, a book dead in closing is dead in settling, and session and probe open as settle
+ *   answers; close answers and writes as a plain closing does;
  * - an output is written exactly as far as the answer says, nowhere if it is a refusal; every other byte, and the
  *   256 on the open side of each buffer, are as they were; book and calls too;
  * - both runs answer and write the same;
@@ -31,6 +32,14 @@
  * - after every piece the bytes about the state and the masks past the n-th are as they were, and what the state says
  *   of itself (sizes, calls made, standing, marks) follows from the words so far;
  * - the words and the last masks are those of session where it took the list, and the same both times where not.
+ * Then the book goes through canonical, twice as the entries do, with an output that has no byte, or one too few, or is
+ * as long as the canonical book, or longer, or has any length. What must hold:
+ * - the answer is that of a plain reading and a plain closing: the book's refusal, dead, 19, 9 by the output's length,
+ *   or 0; both runs answer and write the same;
+ * - the canonical book is written to the front of the output and nothing else is, on a refusal and of a dead book
+ *   nothing; the book is kept;
+ * - what is written is the front of the book with a row at each corner of the plain table; check takes it, close writes
+ *   the same table for both, and it is its own canonical book.
  * Then a text goes through import: twice as the entries do, and once with an output that has room for every book. What
  * must hold:
  * - the answer is one of import's, and the one that the making of the text says where it does; with more room it is the
@@ -39,7 +48,7 @@
  * - both runs answer and write the same;
  * - check takes the book, all its masks are full, it is the one that the text was made from, if it was; and its own
  *   records, written plainly, import as the same book.
- * With -DSHAM=1 to 32 a wrong library is judged, and must be found out: see the functions `sham` below.
+ * With -DSHAM=1 to 48 a wrong library is judged, and must be found out: see the functions `sham` below.
  */
 #define _DEFAULT_SOURCE
 #include "nested_gcc.h"
@@ -174,6 +183,8 @@ struct input {
     size_t lowers_length, uppers_length, masks_length, answers_length, last_masks_length, dead_length;
     uint8_t text[TEXT_ROOM];
     size_t text_length, imported_length;
+    unsigned canonical_room;     /* how long canonical's output is: see room_of_canonical */
+    size_t canonical_spare;
     uint32_t expected;           /* import's answer, given room, or ANY_ANSWER if the making does not say */
     uint8_t ordered[BOOK_ROOM];  /* the book, if that answer is 0 */
     size_t ordered_length;
@@ -193,6 +204,39 @@ static uint32_t word(const uint8_t *bytes, size_t i) {
 static unsigned half(const uint8_t *bytes, size_t i) { return bytes[2 * i] + 256u * bytes[2 * i + 1]; }
 
 static uint32_t book_mask(const struct input *input, size_t slot) { return word(input->book + 12, slot); }
+
+static void put_half(uint8_t *at, unsigned value) {
+    at[0] = (uint8_t)value;
+    at[1] = (uint8_t)(value >> 8);
+}
+
+static void put_word(uint8_t *at, uint32_t value) {
+    put_half(at, value & 65535u);
+    put_half(at + 2, value >> 16);
+}
+
+/* The header of a book with n slots, k types, none of them idle, and r rows; its length. */
+static size_t put_header(uint8_t *book, unsigned n, unsigned k, unsigned r) {
+    unsigned rows_at = 12 + 4 * n, length = rows_at + 8 * r;
+    put_half(book, n);
+    book[2] = (uint8_t)k;
+    book[3] = 0;
+    put_half(book + 4, r);
+    put_half(book + 6, 12);
+    put_half(book + 8, rows_at);
+    put_half(book + 10, length);
+    return length;
+}
+
+static void put_row(uint8_t *book, unsigned n, unsigned row, unsigned type, unsigned end, unsigned lower,
+                    unsigned upper) {
+    uint8_t *at = book + 12 + 4 * n + 8 * row;
+    at[0] = (uint8_t)type;
+    at[1] = 0;
+    put_half(at + 2, end);
+    put_half(at + 4, lower);
+    put_half(at + 6, upper);
+}
 
 /* ---- the library, or a sham ---- */
 
@@ -339,7 +383,8 @@ static uint32_t sham(enum entry entry, struct lent book, struct lent calls, stru
     if (SHAM == 6 && entry == SETTLE && answer == 1) first.at[0] = 1;                 /* dead, and a mask left */
     if (SHAM == 7 && entry == SESSION && answer >= 257 && answer <= 264) return 266;  /* a refusal out of order */
     if (SHAM == 20 && entry == SESSION && answer == 0) no_idle_walls(book, calls, first);
-    if (SHAM >= 31 && entry == SESSION && answer < 2) numbers_out_of_order(book, calls, first, answer == 1);
+    if ((SHAM == 31 || SHAM == 32) && entry == SESSION && answer < 2)
+        numbers_out_of_order(book, calls, first, answer == 1);
     if (SHAM == 22 && entry == SETTLE && answer == 0) no_idle_type(book, first);
     return answer;
 }
@@ -348,6 +393,145 @@ static uint32_t sham(enum entry entry, struct lent book, struct lent calls, stru
 static void paint_stack(uint8_t byte) {
     volatile uint8_t stack[160 * 1024];
     memset((void *)stack, byte, sizeof stack);
+}
+
+/* ---- a plain reading and a plain closing ---- */
+
+/* What refuses the bytes as a book, or 0. */
+static uint32_t fault_of_book(const uint8_t *book, size_t length) {
+    unsigned n, k, r, i;
+    if (length < 12) return NESTED_GCC_TOO_SHORT;
+    n = half(book, 0), k = book[2], r = half(book, 2);
+    if (n < 1 || n > 256 || k < 1 || k > 32 || r > 1024) return NESTED_GCC_OUT_OF_RANGE;
+    if (book[3] > k) return NESTED_GCC_IDLE_TYPE;
+    if (half(book, 3) != 12 || half(book, 4) != 12 + 4 * n) return NESTED_GCC_LAYOUT;
+    if (half(book, 5) != 12 + 4 * n + 8 * r || length != half(book, 5)) return NESTED_GCC_LAYOUT;
+    for (i = 0; i < n; i++) {
+        uint32_t mask = word(book + 12, i);
+        if (mask == 0 || (k < 32 && mask >> k != 0)) return NESTED_GCC_MASK;
+    }
+    for (i = 0; i < r; i++) {
+        const uint8_t *row = book + 12 + 4 * n + 8 * i;
+        unsigned end = half(row, 1), lower = half(row, 2), upper = half(row, 3);
+        if (row[0] >= k || row[1] != 0) return NESTED_GCC_ROW_TYPE;
+        if (end < 1 || end > n) return NESTED_GCC_ROW_END;
+        if (lower > 256 || (upper > 256 && upper != NESTED_GCC_NO_UPPER)) return NESTED_GCC_ROW_BOUND;
+    }
+    return 0;
+}
+
+struct table {
+    int n, k;
+    int lower[32][257], upper[32][257]; /* by type, then end */
+};
+
+static int changed; /* by at_least and at_most */
+
+static void at_least(int *entry, int bound) {
+    if (*entry < bound) *entry = bound, changed = 1;
+}
+
+static void at_most(int *entry, int bound) {
+    if (*entry > bound) *entry = bound, changed = 1;
+}
+
+/* The starting table of a good book. */
+static void start_table(const uint8_t *book, struct table *table) {
+    int v, t;
+    unsigned i;
+    table->n = (int)half(book, 0), table->k = book[2];
+    for (v = 0; v < table->k; v++) {
+        for (t = 0; t <= table->n; t++) table->lower[v][t] = 0, table->upper[v][t] = t;
+    }
+    for (i = 0; i < half(book, 2); i++) {
+        const uint8_t *row = book + 12 + 4 * table->n + 8 * i;
+        at_least(&table->lower[row[0]][half(row, 1)], (int)half(row, 2));
+        at_most(&table->upper[row[0]][half(row, 1)], (int)half(row, 3));
+    }
+}
+
+/* Along the line of a type: up, then down. */
+static void close_line(int *lower, int *upper, int n) {
+    int t;
+    for (t = 1; t <= n; t++) at_least(&lower[t], lower[t - 1]), at_most(&upper[t], upper[t - 1] + 1);
+    for (t = n - 1; t >= 0; t--) at_least(&lower[t], lower[t + 1] - 1), at_most(&upper[t], upper[t + 1]);
+}
+
+/* Across the types at an end. */
+static void close_end(struct table *table, int t) {
+    int lowers = 0, uppers = 0, v;
+    for (v = 0; v < table->k; v++) lowers += table->lower[v][t], uppers += table->upper[v][t];
+    for (v = 0; v < table->k; v++) {
+        int lower = table->lower[v][t], upper = table->upper[v][t];
+        at_least(&table->lower[v][t], t - (uppers - upper));
+        at_most(&table->upper[v][t], t - (lowers - lower));
+    }
+}
+
+/* Closes the table of a good book by the rules, each over the whole of it till none changes anything; whether it is
+ * live. A rule takes away nothing that a closed table within the start has, so that there is none once two cross. */
+static int plain_close(const uint8_t *book, struct table *table) {
+    int v, t;
+    start_table(book, table);
+    do {
+        changed = 0;
+        for (v = 0; v < table->k; v++) close_line(table->lower[v], table->upper[v], table->n);
+        for (t = 0; t <= table->n; t++) close_end(table, t);
+        for (v = 0; v < table->k; v++) {
+            for (t = 0; t <= table->n; t++) {
+                if (table->lower[v][t] > table->upper[v][t]) return 0;
+            }
+        }
+    } while (changed);
+    return 1;
+}
+
+static int lower_corner(const int *lower, int n, int t) {
+    return lower[t] == lower[t - 1] + 1 && (t == n || lower[t + 1] == lower[t]);
+}
+
+static int upper_corner(const int *upper, int n, int t) {
+    return upper[t] == upper[t - 1] && (t == n || upper[t + 1] == upper[t] + 1);
+}
+
+/* The canonical book of a good book that closes to the table, if it has no more rows than may be; how many it has. */
+static unsigned put_canonical(const uint8_t *book, const struct table *table, uint8_t *out) {
+    int n = table->n, v, t;
+    unsigned rows = 0, row = 0;
+    for (v = 0; v < table->k; v++) {
+        for (t = 1; t <= n; t++) rows += lower_corner(table->lower[v], n, t) || upper_corner(table->upper[v], n, t);
+    }
+    if (rows > 1024) return rows;
+    put_header(out, (unsigned)n, (unsigned)table->k, rows);
+    out[3] = book[3];
+    memcpy(out + 12, book + 12, 4 * (size_t)n);
+    for (v = 0; v < table->k; v++) {
+        for (t = 1; t <= n; t++) {
+            int low = lower_corner(table->lower[v], n, t), high = upper_corner(table->upper[v], n, t);
+            unsigned lower = low ? (unsigned)table->lower[v][t] : 0;
+            unsigned upper = high ? (unsigned)table->upper[v][t] : NESTED_GCC_NO_UPPER;
+            if (low || high) put_row(out, (unsigned)n, row++, (unsigned)v, (unsigned)t, lower, upper);
+        }
+    }
+    return rows;
+}
+
+/* What the words say of an input's book. */
+static struct {
+    uint32_t refusal;        /* the book's own, or 0 */
+    int live;                /* it is good and closes, to the table; the rest is then of its canonical book */
+    struct table table;
+    unsigned rows;
+    size_t length;           /* be the rows too many or not */
+    uint8_t book[BOOK_ROOM]; /* unless they are */
+} plain;
+
+static void read_plainly(const struct input *input) {
+    plain.refusal = fault_of_book(input->book, input->book_length);
+    plain.live = plain.refusal == 0 && plain_close(input->book, &plain.table);
+    if (!plain.live) return;
+    plain.rows = put_canonical(input->book, &plain.table, plain.book);
+    plain.length = 12 + 4 * (size_t)book_slots(input) + 8 * (size_t)plain.rows;
 }
 
 /* ---- judging ---- */
@@ -455,6 +639,8 @@ static void judge_table(const struct input *input, const struct outcome *close) 
     for (i = 0; i < close->first_written / 2; i++) {
         unsigned lower = half(close->first, i), upper = half(close->second, i);
         if (lower > upper || upper > i % line) fail("bounds %u and %u at element %zu", lower, upper, i);
+        if ((int)lower != plain.table.lower[i / line][i % line] || (int)upper != plain.table.upper[i / line][i % line])
+            fail("bounds %u and %u at element %zu, and not those of the plain closing", lower, upper, i);
     }
 }
 
@@ -509,13 +695,15 @@ static void judge_masks(const struct input *input, const uint8_t *masks, const c
 static void judge_answers(const struct input *input) {
     uint32_t check = outcomes[CHECK].answer;
     int entry;
-    if (check != 0 && !(check >= 257 && check <= 264)) fail("check answers %u", (unsigned)check);
+    if (check != plain.refusal) fail("check answers %u, and not %u", (unsigned)check, (unsigned)plain.refusal);
     for (entry = CLOSE; entry < ENTRIES; entry++) {
         uint32_t answer = outcomes[entry].answer, expected = check;
         if (check == 0) expected = fault_beside_the_book((enum entry)entry, input);
         if (expected == 0 ? answer > 1 : answer != expected)
             fail("%s answers %u where check answers %u", entry_names[entry], (unsigned)answer, (unsigned)check);
     }
+    if (outcomes[CLOSE].answer < 2 && outcomes[CLOSE].answer != (plain.live ? 0 : 1))
+        fail("close answers %u, and the plain closing says otherwise", (unsigned)outcomes[CLOSE].answer);
     if (outcomes[CLOSE].answer == 1 && outcomes[SETTLE].answer == 0) fail("dead in closing, live in settling");
     for (entry = SESSION; entry < ENTRIES; entry++) {
         if (outcomes[SETTLE].answer < 2 && outcomes[entry].answer < 2 &&
@@ -793,7 +981,8 @@ static void judge_state(const struct input *input, const uint32_t *words, size_t
         if (kind == NESTED_GCC_MARK) marks++;
         if (kind == NESTED_GCC_BACK) marks--, standing = NESTED_GCC_STANDING_LIVE, dead_call = 0;
     }
-    if (nested_gcc_slots(kept) != n || nested_gcc_types(kept) != book_types(input)) fail("the state has another n or k");
+    if (nested_gcc_slots(kept) != n || nested_gcc_types(kept) != book_types(input))
+        fail("the state has another n or k");
     if (nested_gcc_calls_made(kept) != calls) fail("the state has another number of calls than %zu", calls);
     if (nested_gcc_open_marks(kept) != marks) fail("the state has another number of marks than %zu", marks);
     if (nested_gcc_standing(kept) != standing || nested_gcc_dead_call(kept) != dead_call)
@@ -872,6 +1061,174 @@ static void judge_kept(const struct input *input) {
         fail("other words in other pieces");
 }
 
+/* ---- a canonical book ---- */
+
+static const uint32_t canonical_answers[] = { 0, 1, 257, 258, 259, 260, 261, 262, 263, 264, 265, 275 };
+#define CANONICAL_ANSWERS (sizeof canonical_answers / sizeof *canonical_answers)
+
+static unsigned canonical_place(uint32_t answer) {
+    unsigned place;
+    for (place = 0; place < CANONICAL_ANSWERS; place++) {
+        if (canonical_answers[place] == answer) return place;
+    }
+    fail("canonical answers %u", (unsigned)answer);
+    return 0;
+}
+
+/* The length that a written book says it has. */
+static size_t written_length(const uint8_t *book) { return half(book, 5); }
+
+enum { ROOM_EXACT, ROOM_LONGER, ROOM_ONE_SHORT, ROOM_NONE, ROOM_ANY, CANONICAL_ROOMS };
+
+/* How long canonical's output is. Where there is no canonical book, or the region is too short for its rows, the book's
+ * own length stands in for that of the canonical book. */
+static size_t room_of_canonical(const struct input *input) {
+    size_t length = plain.live && plain.length < ANSWERS_ROOM - 2 * GUARD ? plain.length : input->book_length;
+    switch (input->canonical_room) {
+    case ROOM_EXACT: return length;
+    case ROOM_LONGER: return length + 1 + input->canonical_spare % 10;
+    case ROOM_ONE_SHORT: return length == 0 ? 0 : length - 1;
+    case ROOM_NONE: return 0;
+    default: return input->canonical_spare % (length + 40);
+    }
+}
+
+/* With SHAM, the rows of a written book by end, then type. */
+static int by_end(const void *one, const void *other) {
+    const uint8_t *first = one, *second = other;
+    int ends = (int)half(first, 1) - (int)half(second, 1);
+    return ends != 0 ? ends : first[0] - second[0];
+}
+
+/* With SHAM, a side of a row that has no corner is given the table's bound. */
+static void fill_sides(uint8_t *row) {
+    int v = row[0], t = (int)half(row, 1);
+    if (half(row, 2) == 0) put_half(row + 4, (unsigned)plain.table.lower[v][t]);
+    if (half(row, 3) == NESTED_GCC_NO_UPPER) put_half(row + 6, (unsigned)plain.table.upper[v][t]);
+}
+
+/* With SHAM, rows of a written book that are wrong in one way. */
+static void sham_rows(uint8_t *book) {
+    unsigned n = half(book, 0), r = half(book, 2), left = 0, i;
+    uint8_t idle = book[3], *rows = book + 12 + 4 * n;
+    for (i = 0; i < r; i++) {
+        uint8_t *row = rows + 8 * i;
+        if (SHAM == 33) put_half(row + 4, 0); /* upper corners alone */
+        if (SHAM == 33 && half(row, 3) == NESTED_GCC_NO_UPPER) continue;
+        if (SHAM == 34 && half(row, 1) == n) continue; /* the corner at t = n left out */
+        if (SHAM == 38) fill_sides(row);
+        memmove(rows + 8 * left++, row, 8);
+    }
+    if (SHAM == 40) qsort(rows, left, 8, by_end);
+    put_header(book, n, book[2], left);
+    book[3] = SHAM == 35 ? 0 : idle; /* the idle type forgotten */
+}
+
+/* With SHAM, the corners of the table that is closed along the lines alone. */
+static void corners_of_lines(struct lent book, uint8_t *canonical_book) {
+    static struct table table;
+    int v;
+    start_table(book.at, &table);
+    for (v = 0; v < table.k; v++) close_line(table.lower[v], table.upper[v], table.n);
+    put_canonical(book.at, &table, canonical_book);
+}
+
+/* With SHAM, makes a book that canonical wrote wrong in one way, or finds that there is none; the answer. */
+static uint32_t sham_book(struct lent book, uint8_t *canonical_book) {
+    uint8_t masks[NESTED_GCC_MASKS_BYTES];
+    uint32_t settled = nested_gcc_settle(book.at, book.length, masks, sizeof masks);
+    sham_rows(canonical_book);
+    if (SHAM == 43 && settled == 1) return 1;                                                 /* dead by settling */
+    if (SHAM == 45 && half(canonical_book, 2) == 1024) return 275;                            /* 1,024 are too many */
+    if (SHAM == 46 && settled == 0) memcpy(canonical_book + 12, masks, 4 * half(book.at, 0)); /* settle's masks */
+    if (SHAM == 48) corners_of_lines(book, canonical_book);
+    return 0;
+}
+
+/* What the library does, or with SHAM a library that is wrong in one way. */
+static uint32_t sham_canonical(struct lent book, struct lent out) {
+    static uint8_t written[BOOK_ROOM];
+    uint32_t answer;
+    size_t length;
+    if (SHAM < 33) return nested_gcc_canonical(place(book), book.length, place(out), out.length);
+    if (SHAM == 44 && out.length > 0 && out.at[0] & 64) return 265; /* reads the output */
+    answer = nested_gcc_canonical(book.at, book.length, written, NESTED_GCC_BOOK_BYTES);
+    if (answer == 0) answer = sham_book(book, written);
+    length = answer == 0 ? written_length(written) : 0;
+    if (length > out.length) answer = 265;
+    if (answer == 0) memcpy(out.at, written, length);
+    if (SHAM == 36 && answer == 1 && out.length < 12 + 4 * half(book.at, 0)) return 265; /* 9 before dead */
+    if (SHAM == 37 && answer == 275 && out.length < plain.length) return 265;            /* 9 before 19 */
+    if (SHAM == 39 && answer == 0 && length < out.length) out.at[length] ^= 1;           /* one byte past the book */
+    if (SHAM == 41 && answer == 265 && out.length > 0) out.at[0] ^= 1;                   /* refused, yet writes */
+    if (SHAM == 42 && answer == 1 && out.length > 0) out.at[0] ^= 1;                     /* dead, yet writes */
+    if (SHAM == 47 && answer == 275 && out.length >= book.length) {                      /* the given book instead */
+        memcpy(out.at, book.at, book.length);
+        return 0;
+    }
+    return answer;
+}
+
+/* Runs canonical once on an output of that length; the bytes outside of what the answer writes must be kept. */
+static void canonical_once(const uint8_t *bytes, size_t length, size_t room, int pass, struct outcome *outcome) {
+    struct lent book = lend(book_region, length, pass, 17), out = lend(first_region, room, pass, pass == 0 ? 5 : 200);
+    memcpy(book.at, bytes, length);
+    if (number % 8 == 0) paint_stack(pass == 0 ? 0 : 255);
+    outcome->answer = sham_canonical(book, out);
+    outcome->first_written = 0;
+    if (outcome->answer == 0) {
+        if (room < 12 || written_length(out.at) > room) fail("canonical answers 0 for an output of %zu bytes", room);
+        outcome->first_written = written_length(out.at);
+    }
+    must_be_kept(&book, length, "beside the book");
+    must_be_kept(&out, outcome->first_written, "canonical book");
+    if (memcmp(book.at, bytes, length) != 0) fail("canonical wrote to the book");
+    memcpy(outcome->first, out.at, outcome->first_written);
+}
+
+static struct outcome canonical;
+static unsigned long longer_books, shorter_books, full_books; /* written: more rows, fewer rows, as many as may be */
+
+/* The book that was written: the front of the input's, good, of the same table, and its own canonical book. */
+static void judge_written(const struct input *input) {
+    static uint8_t bounds[4][NESTED_GCC_TABLE_BYTES];
+    const uint8_t *book = canonical.first;
+    size_t length = canonical.first_written, table = 2 * (size_t)book_types(input) * (book_slots(input) + 1);
+    if (memcmp(book, input->book, 4) != 0) fail("the canonical book has another n, k or idle type");
+    if (nested_gcc_check(book, length) != 0) fail("check refuses the canonical book");
+    if (memcmp(book + 12, input->book + 12, 4 * book_slots(input)) != 0) fail("the canonical book has other masks");
+    if (nested_gcc_close(input->book, input->book_length, bounds[0], table, bounds[1], table) != 0 ||
+        nested_gcc_close(book, length, bounds[2], table, bounds[3], table) != 0)
+        fail("a book that has a canonical book, or that, does not close");
+    if (memcmp(bounds[0], bounds[2], table) != 0 || memcmp(bounds[1], bounds[3], table) != 0)
+        fail("the canonical book closes to another table");
+    canonical_once(book, length, length, (int)(number % 2), &again);
+    if (again.answer != 0 || again.first_written != length || memcmp(again.first, book, length) != 0)
+        fail("the canonical book is not its own canonical book");
+    if (length != plain.length || memcmp(book, plain.book, length) != 0)
+        fail("canonical writes another book than the corners say");
+    longer_books += plain.rows > half(input->book, 2);
+    shorter_books += plain.rows < half(input->book, 2);
+    full_books += plain.rows == 1024;
+}
+
+static void judge_canonical(const struct input *input) {
+    size_t room = room_of_canonical(input);
+    uint32_t expected = plain.refusal;
+    if (expected == 0 && !plain.live) expected = NESTED_GCC_DEAD;
+    if (expected == 0 && plain.rows > 1024) expected = NESTED_GCC_TOO_MANY_ROWS;
+    if (expected == 0 && room < plain.length) expected = NESTED_GCC_OUTPUT_TOO_SHORT;
+    canonical_once(input->book, input->book_length, room, 0, &canonical);
+    canonical_once(input->book, input->book_length, room, 1, &again);
+    if (canonical.answer != again.answer || canonical.first_written != again.first_written ||
+        memcmp(canonical.first, again.first, again.first_written) != 0)
+        fail("canonical: another answer, or another book, the second time");
+    canonical_place(canonical.answer);
+    if (canonical.answer != expected)
+        fail("canonical answers %u, and not %u", (unsigned)canonical.answer, (unsigned)expected);
+    if (canonical.answer == 0) judge_written(input);
+}
+
 /* ---- an import ---- */
 
 static const uint32_t import_answers[] = { 0, 258, 262, 263, 264, 265, 273, 274 };
@@ -885,9 +1242,6 @@ static unsigned import_place(uint32_t answer) {
     fail("import answers %u", (unsigned)answer);
     return 0;
 }
-
-/* The length that a written book says it has. */
-static size_t written_length(const uint8_t *book) { return half(book, 5); }
 
 /* What the library does, or with SHAM a library that is wrong in one way. */
 static uint32_t sham_import(struct lent text, struct lent book) {
@@ -980,12 +1334,14 @@ static void judge_import(const struct input *input) {
 
 static void judge(const struct input *input) {
     int entry;
+    read_plainly(input);
     for (entry = CHECK; entry < ENTRIES; entry++) run_twice((enum entry)entry, input);
     judge_answers(input);
     judge_outputs(input);
     judge_idle(input);
     judge_probes(input);
     judge_kept(input);
+    judge_canonical(input);
     judge_import(input);
 }
 
@@ -1001,41 +1357,6 @@ static void make_regions(void) {
         state_paints[0][i] = (uint8_t)(11 + 167 * i);
         state_paints[1][i] = (uint8_t)(254 - 59 * i);
     }
-}
-
-/* ---- books and calls ---- */
-
-static void put_half(uint8_t *at, unsigned value) {
-    at[0] = (uint8_t)value;
-    at[1] = (uint8_t)(value >> 8);
-}
-
-static void put_word(uint8_t *at, uint32_t value) {
-    put_half(at, value & 65535u);
-    put_half(at + 2, value >> 16);
-}
-
-/* The header of a book with n slots, k types, none of them idle, and r rows; its length. */
-static size_t put_header(uint8_t *book, unsigned n, unsigned k, unsigned r) {
-    unsigned rows_at = 12 + 4 * n, length = rows_at + 8 * r;
-    put_half(book, n);
-    book[2] = (uint8_t)k;
-    book[3] = 0;
-    put_half(book + 4, r);
-    put_half(book + 6, 12);
-    put_half(book + 8, rows_at);
-    put_half(book + 10, length);
-    return length;
-}
-
-static void put_row(uint8_t *book, unsigned n, unsigned row, unsigned type, unsigned end, unsigned lower,
-                    unsigned upper) {
-    uint8_t *at = book + 12 + 4 * n + 8 * row;
-    at[0] = (uint8_t)type;
-    at[1] = 0;
-    put_half(at + 2, end);
-    put_half(at + 4, lower);
-    put_half(at + 6, upper);
 }
 
 #ifndef FUZZ
@@ -1068,7 +1389,8 @@ static void put_rows(uint8_t *book, const uint8_t *plan, unsigned n, unsigned k,
         lower = count > slack ? count - slack : 0;
         upper = below(4) == 0 ? NESTED_GCC_NO_UPPER : count + below(3);
         if (!near) lower = below(end + 2), upper = below(end + 2);
-        put_row(book, n, row, type, end, lower < 256 ? lower : 256, upper < 256 || upper == NESTED_GCC_NO_UPPER ? upper : 256);
+        if (upper > 256 && upper != NESTED_GCC_NO_UPPER) upper = 256;
+        put_row(book, n, row, type, end, lower < 256 ? lower : 256, upper);
     }
 }
 
@@ -1089,10 +1411,27 @@ static void good_book(struct input *input, int large) {
     put_rows(input->book, plan, n, k, r, near);
 }
 
+/* A live book of about 1,024 canonical rows: at each even end up to some one, a row asks for half of the slots in one
+ * type. That type's lower and each other type's upper then rise at every second slot, and have a corner at each of
+ * these ends and nowhere else: so many rows as types times ends. Some rows more say what follows from these. */
+static void many_corners(struct input *input) {
+    static const uint8_t sizes[][2] = { { 32, 32 }, { 16, 64 }, { 31, 33 }, { 25, 41 } }; /* 1,024 or one off */
+    unsigned size = below(8), k = size < 4 ? sizes[size][0] : between(9, 32);
+    unsigned ends = size < 4 ? sizes[size][1] : 1024 / k - 1 + below(3), n = between(2 * ends, 256);
+    unsigned more = below(4), r = ends + more, type = below(k), shift = below(r), i;
+    input->book_length = put_header(input->book, n, k, r);
+    input->book[3] = (uint8_t)(number % (k + 1));
+    for (i = 0; i < n; i++) put_word(input->book + 12 + 4 * i, 1u << below(k) | (uint32_t)bits() >> (32 - k));
+    for (i = 0; i < r; i++) {
+        unsigned end = i < ends ? 2 * (i + 1) : between(1, 2 * ends);
+        put_row(input->book, n, (i + shift) % r, type, end, end / 2, NESTED_GCC_NO_UPPER);
+    }
+}
+
 static const char *const book_kinds[] = {
     "random bytes", "a right header, then random bytes", "a good small book", "a good large book",
     "a good book, 1 to 4 bits flipped", "a good book, 1 to 4 bytes changed", "a good book, cut short",
-    "a good book, extended"
+    "a good book, extended", "a good book of about 1,024 corners"
 };
 #define BOOK_KINDS (sizeof book_kinds / sizeof *book_kinds)
 
@@ -1101,12 +1440,14 @@ static unsigned make_book(struct input *input) {
     unsigned kind = kinds[below(sizeof kinds)], i, more;
     memset(input->book, 0, 12);
     if (kind == 3 && below(4) != 0) kind = 2; /* large books are few, since they take long */
+    if (below(250) == 0) kind = 8;
     if (kind == 0) put_random(input->book, input->book_length = below(16) == 0 ? below(9300) : below(80));
     if (kind == 1) {
         input->book_length = put_header(input->book, between(1, 6), between(30, 32), below(4));
         put_random(input->book + 12, input->book_length - 12);
     }
-    if (kind >= 2) good_book(input, kind == 3 || below(200) == 0);
+    if (kind == 8) many_corners(input);
+    else if (kind >= 2) good_book(input, kind == 3 || below(200) == 0);
     for (i = between(1, 4); i > 0 && (kind == 4 || kind == 5); i--) {
         size_t at = below(3) == 0 ? below(12) : below((unsigned)input->book_length);
         input->book[at] = (uint8_t)(kind == 4 ? input->book[at] ^ 1u << below(8) : below(256));
@@ -1238,6 +1579,20 @@ static unsigned make_dead_room(struct input *input) {
     if (kind == 2 && count > 0) input->dead_length -= between(1, count < 9 ? count : 9);
     if (kind == 3) input->dead_length = below(40 + count);
     return kind;
+}
+
+/* ---- the output of canonical ---- */
+
+static const char *const canonical_room_kinds[CANONICAL_ROOMS] = {
+    "as long as the canonical book", "longer", "a byte too short", "without a byte", "any length"
+};
+
+static unsigned make_canonical_room(struct input *input) {
+    static const uint8_t kinds[] = { ROOM_EXACT,     ROOM_EXACT, ROOM_LONGER, ROOM_LONGER,
+                                     ROOM_ONE_SHORT, ROOM_NONE,  ROOM_ANY };
+    input->canonical_room = kinds[below(sizeof kinds)];
+    input->canonical_spare = below(65536);
+    return input->canonical_room;
 }
 
 /* ---- texts ---- */
@@ -1454,6 +1809,8 @@ static unsigned long by_book[BOOK_KINDS][SESSION_ANSWERS], by_entry[ENTRIES][ANS
 static unsigned long by_probes[PROBE_KINDS][PROBE_ANSWERS], by_dead_room[ROOM_KINDS][PROBE_ANSWERS];
 static unsigned long by_calls[CALL_KINDS][3], by_room[ROOM_KINDS][3];
 static unsigned long first_words[16]; /* 0 to 3, then 267 to 272 from 4 on */
+static unsigned long by_canonical_book[BOOK_KINDS][CANONICAL_ANSWERS];
+static unsigned long by_canonical_room[CANONICAL_ROOMS][CANONICAL_ANSWERS];
 static unsigned long by_text[TEXT_KINDS][IMPORT_ANSWERS], by_import_room[ROOM_KINDS][IMPORT_ANSWERS];
 
 static unsigned answer_place(uint32_t answer) { return answer < 2 ? answer : answer - 255; }
@@ -1499,6 +1856,8 @@ static void print_counts(void) {
     static const char *const of_probe[] = { "0", "1", "257 to 264", "265", "266", "267", "268", "269" };
     static const char *const verdicts[] = { "opened live", "opened dead", "refused" };
     static const char *const words[] = { "0", "1", "2", "3", "267", "268", "269", "270", "271", "272" };
+    static const char *const of_canonical[] = { "0",   "1",   "257", "258", "259", "260",
+                                                "261", "262", "263", "264", "265", "275" };
     static const char *const of_import[] = { "0", "258", "262", "263", "264", "265", "273", "274" };
     size_t i;
     print_head("answers of", answers, ANSWERS);
@@ -1523,6 +1882,13 @@ static void print_counts(void) {
     for (i = 0; i < ROOM_KINDS; i++) print_line(dead_room_kinds[i], by_dead_room[i], PROBE_ANSWERS);
     printf("\nOf the probes on live books %lu were live and %lu dead, %lu of these though the slot has the type.\n",
            probes_live, probes_dead, probes_dead_within);
+    print_head("canonical's answers by kind of book", of_canonical, CANONICAL_ANSWERS);
+    for (i = 0; i < BOOK_KINDS; i++) print_line(book_kinds[i], by_canonical_book[i], CANONICAL_ANSWERS);
+    print_head("canonical's answers by output", of_canonical, CANONICAL_ANSWERS);
+    for (i = 0; i < CANONICAL_ROOMS; i++) print_line(canonical_room_kinds[i], by_canonical_room[i], CANONICAL_ANSWERS);
+    printf("\nOf the canonical books that were written %lu have fewer rows than the given book, %lu more, and %lu have "
+           "1,024.\nWhere a book has none, its own length stands in for that of the canonical book.\n",
+           shorter_books, longer_books, full_books);
     print_head("import's answers by kind of text", of_import, IMPORT_ANSWERS);
     for (i = 0; i < TEXT_KINDS; i++) print_line(text_kinds[i], by_text[i], IMPORT_ANSWERS);
     print_head("import's answers by output", of_import, IMPORT_ANSWERS);
@@ -1542,7 +1908,7 @@ int main(int argc, char **argv) {
     watch_signals();
     make_regions();
     for (number = first; number < first + count_of_inputs; number++) {
-        unsigned book, calls, room, text, import_room, probes, dead_room;
+        unsigned book, calls, room, text, import_room, probes, dead_room, canonical_room;
         state = seed * 0x2545f4914f6cdd1du + number * 0xd1342543de82ef95u;
         book = make_book(&input);
         calls = make_calls(&input);
@@ -1551,12 +1917,15 @@ int main(int argc, char **argv) {
         import_room = make_import_room(&input);
         probes = make_probes(&input);
         dead_room = make_dead_room(&input);
+        canonical_room = make_canonical_room(&input);
         judge(&input);
         count(&input, book, calls, room);
         by_text[text][import_place(imported.answer)]++;
         by_import_room[import_room][import_place(imported.answer)]++;
         by_probes[probes][probe_place(outcomes[PROBE].answer)]++;
         by_dead_room[dead_room][probe_place(outcomes[PROBE].answer)]++;
+        by_canonical_book[book][canonical_place(canonical.answer)]++;
+        by_canonical_room[canonical_room][canonical_place(canonical.answer)]++;
     }
     print_counts();
     return 0;
@@ -1657,6 +2026,15 @@ static void put_fuzzed_text(struct input *input, const uint8_t *bytes, size_t le
 }
 
 static unsigned long probe_counts[3], import_counts[IMPORT_ANSWERS];
+static unsigned long canonical_counts[5]; /* written, dead, the book refused, 9, 19 */
+
+/* Tells libFuzzer of canonical's answer and of how many rows the canonical book has. */
+static void note_canonical(void) {
+    unsigned place = canonical_place(canonical.answer);
+    place = place < 2 ? place : place < CANONICAL_ANSWERS - 2 ? 2 : place - (CANONICAL_ANSWERS - 5);
+    note(612 + place, plain.live ? plain.rows : 0);
+    canonical_counts[place]++;
+}
 
 /* Tells libFuzzer how many probes are live, and how many dead, and of which kind. */
 static void note_probes(void) {
@@ -1686,6 +2064,10 @@ static void print_sessions(void) {
     fprintf(stderr, "probes: %lu lists on live books, %lu on dead ones, %lu refused; on live books %lu probes live, "
             "%lu dead, %lu of these though the slot has the type\n",
             probe_counts[0], probe_counts[1], probe_counts[2], probes_live, probes_dead, probes_dead_within);
+    fprintf(stderr, "canonicals: %lu written, %lu of these with fewer rows than the book and %lu with more, "
+            "%lu of dead books, %lu refused by a number of the book, %lu by 19, %lu by 9\n",
+            canonical_counts[0], shorter_books, longer_books, canonical_counts[1], canonical_counts[2],
+            canonical_counts[4], canonical_counts[3]);
     fprintf(stderr, "imports: %lu good, %lu refused by 17, %lu by 18, %lu by 2, %lu by 6 to 8, %lu by 9\n",
             import_counts[0], import_counts[6], import_counts[7], import_counts[1],
             import_counts[2] + import_counts[3] + import_counts[4], import_counts[5]);
@@ -1712,7 +2094,8 @@ int LLVMFuzzerInitialize(int *argc, char ***argv) {
 }
 
 /* The input: what to repair and which output to cut (1 byte), the book's length (2 bytes), the book, the calls, which
- * are the probes too. Book and calls together are the text too, and the 2 bytes say how long its output is. */
+ * are the probes too. Book and calls together are the text too, and the 2 bytes say how long its output is, and also
+ * canonical's where that has any length. */
 int LLVMFuzzerTestOneInput(const uint8_t *data, size_t size) {
     static struct input input;
     size_t book, n, k;
@@ -1729,7 +2112,7 @@ int LLVMFuzzerTestOneInput(const uint8_t *data, size_t size) {
     if (data[0] & 2) repair_calls(&input);
     n = book_slots(&input) % 257, k = book_types(&input) % 33;
     put_fuzzed_probes(&input, data + 3 + book, size - 3 - book, data[0] >> 1 & 1);
-    cut = data[0] >> 2 & 7; /* which output is one byte too short; 6 and 7: none */
+    cut = data[0] >> 2 & 7; /* which output is one byte too short; 6: canonical's, 7: none */
     input.lowers_length = 2 * k * (n + 1) - (k > 0 && cut == 0);
     input.uppers_length = 2 * k * (n + 1) - (k > 0 && cut == 1);
     input.masks_length = 4 * n - (n > 0 && cut == 2);
@@ -1739,12 +2122,15 @@ int LLVMFuzzerTestOneInput(const uint8_t *data, size_t size) {
     input.answers_length -= input.answers_length > 0 && cut == 4;
     input.dead_length = input.probes_length / 4 + (data[0] >> 6);
     input.dead_length -= input.dead_length > 0 && cut == 5;
+    input.canonical_room = cut == 6 ? ROOM_ONE_SHORT : cut == 7 ? ROOM_ANY : data[0] >> 6 ? ROOM_LONGER : ROOM_EXACT;
+    input.canonical_spare = data[1] + 256u * data[2];
     put_fuzzed_text(&input, data + 3, size - 3, data[0] >> 5 & 1);
     input.imported_length = (data[1] + 256u * data[2]) % (NESTED_GCC_BOOK_BYTES + 100);
     number++;
     judge(&input);
     note_outcomes(&input);
     note_probes();
+    note_canonical();
     note_import(&input);
     count_session(&input);
     return 0;

@@ -78,7 +78,7 @@ mask-bytes (m ∷ ms) rest small (suc s) inside =
     ∙ mask-bytes ms rest (λ s inside. small (suc s) (omega arith)) s (omega arith)
 
 -- ---- the rows
-rowsBytes-length : (rs : List Row) → length (rowsBytes rs) ≡ 8 * length rs
+pub rowsBytes-length : (rs : List Row) → length (rowsBytes rs) ≡ 8 * length rs
 unfolding rowsBytes
 rowsBytes-length [] = refl
 rowsBytes-length (r ∷ rs) = length-append (rowBytes r) (rowsBytes rs) ∙ omega (arith, rowsBytes-length rs)

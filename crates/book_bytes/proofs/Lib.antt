@@ -1,2 +1,3 @@
 pub mod BookBytesLaws
+pub mod GoodPartsLaws
 mod WritingLaws

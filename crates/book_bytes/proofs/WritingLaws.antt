@@ -2,16 +2,16 @@
 -- `masks-start`, `masks-more`, `masks-all`. No contract cites this file. Assumes nothing.
 use mathlib.Core.Path.{_≡_, refl, sym, ap, _∙_}
 use mathlib.Core.List.{List, [], _∷_, _++_}
-use Prim.Native.Nat.{ℕ, suc, _+_, _*_, _-_, _^_, _%_, _≤_, _<_}
+use Prim.Native.Nat.{ℕ, zero, suc, _+_, _*_, _-_, _^_, _%_, _≤_, _<_}
 use native.Mathlib.Nat.{mod-eq-of-lt}
 use native.Mathlib.Numerals.{add-one}
 use lib.Pow.{pow-pos, pow-mono}
 use native.Mathlib.Omega.{arith}
-use lib.ListN.{length, set, replicate}
+use lib.ListN.{length, getD, set, drop, drop-of-length-le}
 use lib.Seq.{sets, length-sets}
 use Rattle.book.specs.declared.Row.{Row}
 use Rattle.elements.specs.Elements.{digits, bytesOf}
-use Rattle.elements.proofs.ElementsLaws.{sets-append}
+use Rattle.elements.proofs.ElementsLaws.{sets-append, bytesOf-empty}
 use Rattle.book_bytes.specs.BookBytes.{headerBytes, rowBytes}
 
 -- ---- the header: a word, two bytes, four words
@@ -44,44 +44,43 @@ row-stored out p row end-is lower-is upper-is =
 
 -- ---- the masks
 -- what is left to store from slot s is what was to be stored from slot 0
-pub record Masking (out₀ : List ℕ) (n mask : ℕ) (out : List ℕ) (s : ℕ) : Type 0 where
-  pub within : s ≤ n
+pub record Masking (out₀ ms out : List ℕ) (s : ℕ) : Type 0 where
+  pub within : s ≤ length ms
   pub long : length out ≡ length out₀
-  pub same : sets out (12 + 4 * s) (bytesOf 4 (replicate (n - s) mask)) ≡ sets out₀ 12 (bytesOf 4 (replicate n mask))
+  pub same : sets out (12 + 4 * s) (bytesOf 4 (drop s ms)) ≡ sets out₀ 12 (bytesOf 4 ms)
 
-pub masks-start : {out : List ℕ} {n mask : ℕ} → Masking out n mask out 0
-masks-start {out = out} {n = n} {mask = mask} =
-    let all : n - 0 ≡ n = omega arith in
-    record { within = omega arith; long = refl; same = ap (λ (m : ℕ). sets out 12 (bytesOf 4 (replicate m mask))) all }
+pub masks-start : {out ms : List ℕ} → Masking out ms out 0
+masks-start = record { within = omega arith; long = refl; same = refl }
 
-bytes-more : (m mask : ℕ) → bytesOf 4 (replicate (suc m) mask) ≡ digits 4 mask ++ bytesOf 4 (replicate m mask)
+bytes-more : (x : ℕ) (xs : List ℕ) → bytesOf 4 (x ∷ xs) ≡ digits 4 x ++ bytesOf 4 xs
 unfolding bytesOf
-bytes-more m mask = refl
+bytes-more x xs = refl
 
-bytes-none : (mask : ℕ) → bytesOf 4 (replicate 0 mask) ≡ []
-unfolding bytesOf
-bytes-none mask = refl
+drop-next : (xs : List ℕ) (s : ℕ) → s < length xs → drop s xs ≡ getD xs s 0 ∷ drop (suc s) xs
+drop-next [] s inside = absurd (omega arith)
+drop-next (x ∷ xs) zero inside = refl
+drop-next (x ∷ xs) (suc s) inside = drop-next xs s (omega arith)
 
-pub masks-more : {out₀ : List ℕ} {n mask : ℕ} {out out′ : List ℕ} {s : ℕ} → s < n → Masking out₀ n mask out s
-    → out′ ≡ sets out (12 + 4 * s) (digits 4 mask) → Masking out₀ n mask out′ (s + 1)
-masks-more {n = n} {mask = mask} {out = out} {s = s} s<n so-far stored =
-    let left : n - s ≡ suc (n - (s + 1)) = omega arith in
-    let rest = bytesOf 4 (replicate (n - (s + 1)) mask) in
+pub masks-more : {out₀ ms out out′ : List ℕ} {s x : ℕ} → s < length ms → Masking out₀ ms out s → x ≡ getD ms s 0
+    → out′ ≡ sets out (12 + 4 * s) (digits 4 x) → Masking out₀ ms out′ (s + 1)
+masks-more {ms = ms} {out = out} {s = s} {x = x} inside so-far is stored =
+    let rest = bytesOf 4 (drop (s + 1) ms) in
+    let left : drop s ms ≡ x ∷ drop (s + 1) ms =
+    drop-next ms s inside ∙ ap (λ (y : ℕ). y ∷ drop (suc s) ms) (sym is) ∙ ap (λ (i : ℕ). x ∷ drop i ms) (sym (add-one s))
+    in
     record {
       within = omega arith;
-      long = ap length stored ∙ length-sets out (12 + 4 * s) (digits 4 mask) ∙ so-far .long;
+      long = ap length stored ∙ length-sets out (12 + 4 * s) (digits 4 x) ∙ so-far .long;
       same =
           ap (λ (l : List ℕ). sets l (12 + 4 * (s + 1)) rest) stored
-          ∙ sets-append out (12 + 4 * s) (digits 4 mask) rest (12 + 4 * (s + 1)) (omega arith)
-          ∙ ap (sets out (12 + 4 * s)) (sym (ap (λ (m : ℕ). bytesOf 4 (replicate m mask)) left ∙ bytes-more (n - (s + 1)) mask))
+          ∙ sets-append out (12 + 4 * s) (digits 4 x) rest (12 + 4 * (s + 1)) (omega arith)
+          ∙ ap (sets out (12 + 4 * s)) (sym (ap (bytesOf 4) left ∙ bytes-more x (drop (s + 1) ms)))
           ∙ so-far .same;
     }
 
-pub masks-all : {out₀ : List ℕ} {n mask : ℕ} {out : List ℕ} {s : ℕ} → n ≤ s → Masking out₀ n mask out s
-    → out ≡ sets out₀ 12 (bytesOf 4 (replicate n mask))
-masks-all {n = n} {mask = mask} {out = out} {s = s} n≤s so-far =
-    let none : n - s ≡ 0 = omega (arith, so-far .within) in
-    sym (ap (sets out (12 + 4 * s)) (ap (λ (m : ℕ). bytesOf 4 (replicate m mask)) none ∙ bytes-none mask)) ∙ so-far .same
+pub masks-all : {out₀ ms out : List ℕ} {s : ℕ} → length ms ≤ s → Masking out₀ ms out s → out ≡ sets out₀ 12 (bytesOf 4 ms)
+masks-all {ms = ms} {out = out} {s = s} end so-far =
+    sym (ap (sets out (12 + 4 * s)) (ap (bytesOf 4) (drop-of-length-le ms end) ∙ bytesOf-empty 4)) ∙ so-far .same
 
 -- ---- the full mask
 -- 2 ^ k, shifted in 64 bits, and 1 less in 32

@@ -1,6 +1,7 @@
 -- The bytes of a book (document 01, 'The book') from its parts: the reverse of `specs/Layout.antt` of the crate book.
 --   headerBytes n k idle r      the 12 bytes of the header, with r rows
 --   fullMasks n k               n masks, each with every type below k
+--   orderRow v e l u            the row that orders type v by end e, from l to u
 --   rowBytes r, rowsBytes rs    8 bytes for each row
 --   bookBytes n k idle ms rs    header, masks and rows
 --   RowFits r                   each number of r fits its bytes
@@ -18,6 +19,9 @@ use Rattle.book.specs.Lists.{All}
 
 abbrev pub headerBytes : ℕ → ℕ → ℕ → ℕ → List ℕ
 headerBytes n k idle r = digits 2 n ++ (k ∷ idle ∷ []) ++ digits 2 r ++ digits 2 12 ++ digits 2 (12 + 4 * n) ++ digits 2 (12 + 4 * n + 8 * r)
+
+abbrev pub orderRow : ℕ → ℕ → ℕ → ℕ → Row
+orderRow v e l u = record { value = v; reserved = 0; end = e; lower = l; upper = u }
 
 abbrev pub rowBytes : Row → List ℕ
 rowBytes r = (r .value ∷ r .reserved ∷ []) ++ digits 2 (r .end) ++ digits 2 (r .lower) ++ digits 2 (r .upper)

@@ -1,6 +1,8 @@
 // The parts of a book, written. Nothing is refused: each function requires just the room that it writes to.
 // The contracts cite book_bytes' `specs/BookBytes.antt`.
 use book::Row;
+use book::mask_at;
+use book::slots;
 use elements::put16;
 use elements::put32;
 ghost use mathlib.Core.Path.{_≡_};
@@ -8,6 +10,7 @@ ghost use Prim.Native.Nat.{_+_, _*_, _-_, _^_, _<_, _≤_};
 ghost use lib.ListN.{length, replicate};
 ghost use lib.Seq.{sets};
 ghost use Rattle.elements.specs.Elements.{bytesOf};
+ghost use Rattle.book.specs.Layout as Layout;
 ghost use Rattle.book_bytes.specs.BookBytes.{headerBytes, rowBytes, RowFits};
 
 // Writes the header of a book with n slots, k values, idle in byte 3 and r rows into the front of out.
@@ -32,6 +35,19 @@ pub fn fill_masks(out: &mut [u8], n: usize, mask: u32)
     let mut s = 0;
     while s < n {
         put32(out, 12 + 4 * s, mask);
+        s += 1;
+    }
+}
+
+// Writes the masks of book behind the header.
+pub fn write_masks(book: &[u8], out: &mut [u8])
+    requires { ⌜ (12 + 4 * Layout.slots (now book) ≤ length (now book)) × (12 + 4 * Layout.slots (now book) ≤ length (now out)) ⌝ }
+    ensures { λ r. ⌜ now (out .exit) ≡ sets (now (out .entry)) 12 (bytesOf 4 (Layout.masks (now (book .entry)))) ⌝ }
+{
+    let n = slots(book);
+    let mut s = 0;
+    while s < n {
+        put32(out, 12 + 4 * s, mask_at(book, s));
         s += 1;
     }
 }

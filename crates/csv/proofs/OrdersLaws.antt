@@ -25,7 +25,7 @@ use Rattle.csv_model.specs.Ordered.{rowsFault}
 use Rattle.csv_model.specs.Import.{recordsFault, slotsOf, valuesOf, rowsOfAll, rowsOf, bookLengthOf}
 use Rattle.csv_model.specs.Import.{saidFault, recordsRefusal, csvFault, bookOf, stored, Imports}
 use Rattle.csv_model.proofs.CsvLaws.{records-first}
-use Rattle.csv_model.proofs.ImportLaws.{range-in, Accepted, csv-accepted, length-bookOf, rows-fit}
+use Rattle.csv_model.proofs.ImportLaws.{range-in, Accepted, csv-accepted, length-bookOf, rows-said-fit}
 use Rattle.csv.specs.declared.Read.{Read}
 use Rattle.csv.specs.declared.Later.{Later}
 use Rattle.csv.specs.declared.Orders.{Orders}
@@ -228,7 +228,7 @@ module _ (limits : Limits) {s : List ℕ} (o : List ℕ) {orders : Orders} (read
             slots-most = n-most;
             values-most = k-most;
             rows-most = le-trans (accepted .orderly .rows-most) (small .rows);
-            rows-fit = rows-fit (nOf s) (kOf s) (rowsSaid s) n-most k-most (accepted .orderly .rows-good);
+            rows-fit = rows-said-fit (nOf s) (kOf s) (rowsSaid s) n-most k-most (accepted .orderly .rows-good);
             room = accepted .room;
           }
 

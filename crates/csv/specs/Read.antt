@@ -14,7 +14,7 @@ use lib.ListN.{length, drop}
 use Rattle.book.specs.Refusal.{fault, _orElse_}
 use Rattle.csv_model.specs.declared.Figure.{Figure}
 use Rattle.csv_model.specs.Csv.{Record}
-use Rattle.csv_model.specs.Ordered.{orderRow}
+use Rattle.book_bytes.specs.BookBytes.{orderRow}
 use Rattle.csv_model.specs.Import.{badField, said}
 use Rattle.csv.specs.declared.Tally.{Tally}
 use Rattle.csv.specs.declared.Read.{Read}

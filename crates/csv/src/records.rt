@@ -12,7 +12,7 @@ ghost use Prim.Native.Nat.{_<_, _≤_};
 ghost use lib.ListN.{length, drop};
 ghost use Rattle.csv_model.specs.Csv.{recordOf};
 ghost use Rattle.csv_model.specs.Import as Import;
-ghost use Rattle.csv_model.specs.Ordered.{orderRow};
+ghost use Rattle.book_bytes.specs.BookBytes.{orderRow};
 ghost use Rattle.csv.specs.Read.{noFields, added, faultOf, ReadOf};
 
 // The place of the upper in a later record.

@@ -1,30 +1,28 @@
 -- The laws of `specs/Import.antt`. No contract cites this file. The ones that matter most: `csv-accepted` (no number: every test passed), `book-good`,
 -- `slots-is`, `masks-is`, `rows-is` (the book of orders that pass every test is good, and reads back to them), `csv-numbers`.
 -- Assumes nothing.
-use mathlib.Core.Path.{_≡_, refl, sym, ap, _∙_}
-use mathlib.Core.Logic.{_⊎_, ⊎-elim}
+use mathlib.Core.Path.{_≡_, refl, sym, _∙_}
 use mathlib.Core.Bool.{Bool, true, false, not, _&&_, _||_}
 use mathlib.Core.List.{List, [], _∷_}
 use Prim.Native.Nat.{ℕ, zero, suc, _+_, _*_, _-_, _^_, _≤_, _<_, zero-le}
-use native.Mathlib.Nat.{le-trans, lt-of-lt-of-le}
 use native.Mathlib.Omega.{arith}
 use lib.Dec.{eqb, ltb, leb, lit<}
 use lib.Pow.{pow-mono, pow-sub-lt}
-use lib.ListN.{length, getD, drop, length-replicate, getD-replicate}
+use lib.ListN.{length, drop, length-replicate, getD-replicate}
 use borrow.Author.Tests.{leb-true, ltb-false, not-false}
 use Rattle.book.specs.declared.Limits.{Limits}
 use Rattle.book.specs.declared.Row.{Row}
-use Rattle.book.specs.Layout.{slots, rowCount, bookLength, maskAt, rowsPart, rowAt, masks, rows}
+use Rattle.book.specs.Layout.{slots, bookLength, masks, rows}
 use Rattle.book.specs.Refusal.{beyond, fault, _orElse_, within, rowFault, GoodBook}
-use Rattle.book.specs.GoodFacts.{HeaderFacts, MaskFacts, RowFacts, GoodFacts}
-use Rattle.book.proofs.LayoutLaws.{getD-masks, getD-rows}
+use Rattle.book.specs.GoodFacts.{MaskFacts, RowFacts}
 use Rattle.book.proofs.RefusalLaws.{none-of-or, both-of-and, fault-none, none-of-orElse}
-use Rattle.book.proofs.BookLaws.{row-facts, facts-good}
+use Rattle.book.proofs.BookLaws.{row-facts}
 use Rattle.book.specs.Lists.{All}
-use Rattle.book_bytes.specs.BookBytes.{bookBytes, RowFits, BookFits, fullMasks, LimitsFit}
-use Rattle.book_bytes.proofs.BookBytesLaws.{slots-of, rowCount-of, rowsOffset-of, bookLength-of, masks-of, rows-of, length-of}
+use Rattle.book_bytes.specs.BookBytes.{orderRow, bookBytes, RowFits, BookFits, fullMasks, LimitsFit}
+use Rattle.book_bytes.proofs.BookBytesLaws.{slots-of, bookLength-of, masks-of, rows-of, length-of}
+use Rattle.book_bytes.proofs.GoodPartsLaws.{GoodParts, rows-fit, parts-fit, parts-good}
 use Rattle.csv_model.specs.Csv.{Record, records}
-use Rattle.csv_model.specs.Ordered.{orderRow, rangeFault, rowsFault}
+use Rattle.csv_model.specs.Ordered.{rangeFault, rowsFault}
 use Rattle.csv_model.specs.Import.{badFields, recordFault, recordsFault, slotsOf, valuesOf, rowOf, rowsOfAll, rowsOf}
 use Rattle.csv_model.specs.Ordered.{ordersFault}
 use Rattle.csv_model.specs.Import.{bookLengthOf, recordsRefusal, csvFault, bookOf}
@@ -86,45 +84,39 @@ csv-accepted limits rs len none =
     record { sound = from-17 .0; orderly = orders .0; room = orders .1 }
 
 -- ---- rowsFault
-pub rows-facts : (n k : ℕ) (rs : List Row) → rowsFault n k rs ≡ 0 → (i : ℕ) (d : Row) → i < length rs → RowFacts n k (getD rs i d)
+rows-facts : (n k : ℕ) (rs : List Row) → rowsFault n k rs ≡ 0 → All (RowFacts n k) rs
 unfolding rowsFault
-rows-facts n k [] none i d inside = absurd (omega arith)
-rows-facts n k (r ∷ rs) none zero d inside = row-facts n k r (none-of-orElse (rowFault n k r) (rowsFault n k rs) none .0)
-rows-facts n k (r ∷ rs) none (suc i) d inside = rows-facts n k rs (none-of-orElse (rowFault n k r) (rowsFault n k rs) none .1) i d (omega arith)
-
-pub row-fits : (n k : ℕ) (r : Row) → n ≤ 256 → k ≤ 32 → RowFacts n k r → RowFits r
-row-fits n k r small few facts =
-    record {
-      value = let h = facts .value-below in omega arith;
-      reserved = let h = facts .reserved-zero in omega arith;
-      end = let h = facts .end-most in omega arith;
-      lower = let h = facts .lower-most in omega arith;
-      upper = ⊎-elim (λ bounded. omega arith) (λ none. omega arith) (facts .upper-most);
-    }
-
-pub rows-fit : (n k : ℕ) (rs : List Row) → n ≤ 256 → k ≤ 32 → rowsFault n k rs ≡ 0 → All RowFits rs
-unfolding rowsFault
-rows-fit n k [] small few none = tt
-rows-fit n k (r ∷ rs) small few none =
+rows-facts n k [] none = tt
+rows-facts n k (r ∷ rs) none =
     let both = none-of-orElse (rowFault n k r) (rowsFault n k rs) none in
-    (row-fits n k r small few (row-facts n k r (both .0)), rows-fit n k rs small few (both .1))
+    (row-facts n k r (both .0), rows-facts n k rs (both .1))
+
+pub rows-said-fit : (n k : ℕ) (rs : List Row) → n ≤ 256 → k ≤ 32 → rowsFault n k rs ≡ 0 → All RowFits rs
+rows-said-fit n k rs small few none = rows-fit n k rs small few (rows-facts n k rs none)
 
 -- ---- the book
 module _ (limits : Limits) (n k : ℕ) (rs : List Row) (small : LimitsFit limits) (ok : Orderly limits n k rs) where
-  mask-below : 2 ^ k - 1 < 4294967296
-  mask-below =
-      let below : 2 ^ k - 1 < 2 ^ k = pow-sub-lt k (omega arith) in
-      let most : 2 ^ k ≤ 2 ^ 32 = pow-mono (le-trans (ok .values-most) (small .values)) in
-      lt-of-lt-of-le below most
+  full-mask : MaskFacts k (2 ^ k - 1)
+  full-mask =
+      let two : 2 ^ 1 ≤ 2 ^ k = pow-mono (ok .values-least) in
+      record { nonempty = λ none. omega arith; below = pow-sub-lt k (omega arith) }
 
-  pub fits : BookFits n (fullMasks n k) rs
-  fits =
+  parts : GoodParts limits n k 0 (fullMasks n k) rs
+  parts =
       record {
-        slots = length-replicate n (2 ^ k - 1);
-        length = omega (arith, ok .slots-most, ok .rows-most, small .slots, small .rows);
-        masks = λ e e<n. rw (getD-replicate n e (2 ^ k - 1) 0 e<n) mask-below;
-        rows = rows-fit n k rs (le-trans (ok .slots-most) (small .slots)) (le-trans (ok .values-most) (small .values)) (ok .rows-good);
+        slots-least = ok .slots-least;
+        slots-most = ok .slots-most;
+        values-least = ok .values-least;
+        values-most = ok .values-most;
+        rows-most = ok .rows-most;
+        idle-known = zero-le;
+        masks-long = length-replicate n (2 ^ k - 1);
+        mask = λ s s<n. rw (getD-replicate n s (2 ^ k - 1) 0 s<n) full-mask;
+        row = rows-facts n k rs (ok .rows-good);
       }
+
+  fits : BookFits n (fullMasks n k) rs
+  fits = parts-fit limits small n k 0 (fullMasks n k) rs parts
 
   abbrev b : List ℕ
   b = bookBytes n k 0 (fullMasks n k) rs
@@ -132,62 +124,17 @@ module _ (limits : Limits) (n k : ℕ) (rs : List Row) (small : LimitsFit limits
   pub slots-is : slots b ≡ n
   slots-is = slots-of n k 0 (fullMasks n k) rs fits
 
-  rowCount-is : rowCount b ≡ length rs
-  rowCount-is = rowCount-of n k 0 (fullMasks n k) rs fits
-
   pub rows-is : rows b ≡ rs
   rows-is = rows-of n k 0 (fullMasks n k) rs fits
 
   pub masks-is : masks b ≡ fullMasks n k
   masks-is = masks-of n k 0 (fullMasks n k) rs fits
 
-  header : HeaderFacts limits b
-  header =
-      let count = rowCount-is in
-      let slots = slots-is in
-      record {
-        header-inside = omega (arith, length-of n k 0 (fullMasks n k) rs fits);
-        slots-least = rw slots-is (ok .slots-least);
-        slots-most = rw slots-is (ok .slots-most);
-        values-least = ok .values-least;
-        values-most = ok .values-most;
-        rows-most = rw rowCount-is (ok .rows-most);
-        idle-known = zero-le;
-        masks-offset = refl;
-        rows-offset = omega (arith, rowsOffset-of n k 0 (fullMasks n k) rs fits);
-        given-length = omega (arith, bookLength-of n k 0 (fullMasks n k) rs fits);
-        lent-length = omega (arith, length-of n k 0 (fullMasks n k) rs fits);
-      }
-
-  full-mask : MaskFacts k (2 ^ k - 1)
-  full-mask =
-      let two : 2 ^ 1 ≤ 2 ^ k = pow-mono (ok .values-least) in
-      record { nonempty = λ none. omega arith; below = pow-sub-lt k (omega arith) }
-
-  facts : GoodFacts limits b
-  facts =
-      record {
-        header = header;
-        mask =
-            λ e e<n.
-            let inside : e < n = omega (arith, slots-is) in
-            let is : maskAt b e ≡ 2 ^ k - 1 = sym (getD-masks b e e<n) ∙ ap (λ (ms : List ℕ). getD ms e 0) masks-is ∙ getD-replicate n e (2 ^ k - 1) 0 inside in
-            rw is full-mask;
-        row =
-            λ i i<r.
-            let inside : i < length rs = omega (arith, rowCount-is) in
-            let is : rowAt (rowsPart b) i ≡ getD rs i none = sym (getD-rows b i none i<r) ∙ ap (λ (l : List Row). getD l i none) rows-is in
-            rw (is, slots-is) (rows-facts n k rs (ok .rows-good) i none inside);
-      }
-    where
-      none : Row
-      none = record { value = 0; reserved = 0; end = 0; lower = 0; upper = 0 }
-
   pub book-length : length b ≡ 12 + 4 * n + 8 * length rs
   book-length = length-of n k 0 (fullMasks n k) rs fits
 
   pub book-good : GoodBook limits b
-  book-good = facts-good limits b facts
+  book-good = parts-good limits small n k 0 (fullMasks n k) rs parts
 
   pub book-says : bookLength b ≡ length b
   book-says = bookLength-of n k 0 (fullMasks n k) rs fits ∙ sym book-length

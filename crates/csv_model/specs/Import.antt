@@ -23,9 +23,9 @@ use lib.ListN.{length, getD, drop}
 use Rattle.book.specs.declared.Limits.{Limits}
 use Rattle.book.specs.declared.Row.{Row}
 use Rattle.book.specs.Refusal.{fault, _orElse_}
-use Rattle.book_bytes.specs.BookBytes.{fullMasks, bookBytes}
+use Rattle.book_bytes.specs.BookBytes.{orderRow, fullMasks, bookBytes}
 use Rattle.csv_model.specs.declared.Figure.{Figure}
-use Rattle.csv_model.specs.Ordered.{orderRow, ordersFault}
+use Rattle.csv_model.specs.Ordered.{ordersFault}
 use Rattle.csv_model.specs.Csv.{nothing, Record, brokenRecord, records}
 
 -- ---- 17 and 18

@@ -27,9 +27,9 @@ use Rattle.book.specs.Lists.{All}
 use Rattle.book.specs.Refusal.{beyond, GoodBook}
 use Rattle.closing_model.specs.Start.{startLowers, startUppers}
 use Rattle.closing_model.specs.Closing.{closing}
-use Rattle.book_bytes.specs.BookBytes.{bookBytes, fullMasks}
+use Rattle.book_bytes.specs.BookBytes.{orderRow, bookBytes, fullMasks}
 use Rattle.csv_model.specs.Rfc.{isDigit, RecordAt, TextOf, Unreadable}
-use Rattle.csv_model.specs.Ordered.{orderRow, rowsFault}
+use Rattle.csv_model.specs.Ordered.{rowsFault}
 
 -- ---- good fields and records
 unfoldable pub decimalFrom : ℕ → List ℕ → ℕ

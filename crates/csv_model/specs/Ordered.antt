@@ -1,6 +1,5 @@
 -- What is ordered, as numbers, and which of 2, 6 to 8 and 9 refuses it (document 02, request one). Nothing is read here, and nothing wraps: a number is the
 -- one that was written, however large.
---   orderRow v e l u     the row that orders type v by end e, from l to u
 --   rangeFault limits n k r   2 where slots, types or the number of rows is out of range
 --   rowsFault n k rows   6, 7 or 8 of the first row that has one
 --   ordersFault limits n k rows len   2, then 6 to 8 by row, then 9 where an output of len bytes is shorter than the book
@@ -12,9 +11,6 @@ use lib.ListN.{length}
 use Rattle.book.specs.declared.Limits.{Limits}
 use Rattle.book.specs.declared.Row.{Row}
 use Rattle.book.specs.Refusal.{fault, _orElse_, beyond, rowFault}
-
-abbrev pub orderRow : ℕ → ℕ → ℕ → ℕ → Row
-orderRow v e l u = record { value = v; reserved = 0; end = e; lower = l; upper = u }
 
 abbrev pub rangeFault : Limits → ℕ → ℕ → ℕ → ℕ
 rangeFault limits n k r = fault 2 (beyond limits n k r)

@@ -10,7 +10,7 @@ ghost use Rattle.book.specs.Refusal.{refusal, numberOf};
 ghost use Rattle.closing.specs.Close.{Closes, closeOf};
 ghost use Rattle.settle_fault.specs.Settle.{Settles, settleOf};
 ghost use Rattle.session_fault.specs.Entry.{SessionRan, sessionOf};
-ghost use Rattle.entries_model.specs.Entries.{fullLimits, ImportEntry, ProbeEntry};
+ghost use Rattle.entries_model.specs.Entries.{fullLimits, ImportEntry, ProbeEntry, CanonicalEntry};
 
 // Whether book is a good book, or why not.
 pub fn check(book: &[u8]) -> Verdict
@@ -80,4 +80,11 @@ pub fn probe(book: &[u8], calls: &[u8], dead: &mut [u8]) -> Answer
         rows: 1024,
     };
     probe::probe(book, limits, calls, dead)
+}
+
+// Writes the canonical book of book, a row for each corner of its closed table, into the front of out. Live and dead are those of closing alone.
+pub fn canonical(book: &[u8], out: &mut [u8]) -> Answer
+    ensures { λ r. ⌜ CanonicalEntry (now (book .entry)) (now (out .entry)) (wordOf r) (now (out .exit)) ⌝ }
+{
+    canonical::canonical(book, out)
 }

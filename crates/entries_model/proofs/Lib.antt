@@ -1,3 +1,5 @@
+pub mod AlikeLaws
+pub mod CanonicalTheorems
 pub mod CheckLaws
 pub mod IdleTheorems
 pub mod ImportTheorems

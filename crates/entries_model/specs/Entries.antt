@@ -1,4 +1,4 @@
--- What the exported entries promise, from bytes to bytes (document 01, 'Entries and their numbers'; document 02, requests one and four).
+-- What the exported entries promise, from bytes to bytes (document 01, 'Entries and their numbers'; document 02, requests one, four and six).
 --   fullLimits        document 01's limits: 256 slots, 32 types, 1024 rows
 --   answered number   0 where no number refuses, else 256 + the number
 --   checkAnswer b     what check answers for the bytes b: 0 for a good book
@@ -11,6 +11,7 @@
 --   ImportEntry s o r o′   of the text s and the output o as it is lent: r is what import_csv answers, and o′ is the output as it comes back
 --   ProbeEntry b calls D r D′   of book b, a list of assign calls and the output D as it is lent: r is what probe answers, and D′ is the output as it
 --                     comes back
+--   CanonicalEntry b o r o′   of book b and the output o as it is lent: r is what canonical answers, and o′ is the output as it comes back
 -- Assumes nothing.
 use mathlib.Core.Path.{_≡_}
 use mathlib.Core.List.{List}
@@ -24,6 +25,7 @@ use Rattle.settle_fault.specs.Settle.{Settles, settleOf}
 use Rattle.session_fault.specs.Entry.{sessionOf, SessionRan}
 use Rattle.csv_model.specs.Import.{csvFault, bookOf, stored}
 use Rattle.probe_model.specs.Probe.{Probes}
+use Rattle.canonical_model.specs.Canonical.{canonicalOf, Canonises}
 
 abbrev pub fullLimits : Limits
 fullLimits = record { slots = 256; values = 32; rows = 1024 }
@@ -50,3 +52,6 @@ pub record ImportEntry (s o : List ℕ) (r : ℕ) (o′ : List ℕ) : Type 0 whe
 
 abbrev pub ProbeEntry : List ℕ → List ℕ → List ℕ → ℕ → List ℕ → Type 0
 ProbeEntry b calls D r D′ = Probes fullLimits b calls D r D′
+
+abbrev pub CanonicalEntry : List ℕ → List ℕ → ℕ → List ℕ → Type 0
+CanonicalEntry b o r o′ = Canonises (canonicalOf fullLimits b (length o)) r o o′

@@ -1,3 +1,4 @@
+pub mod CanonicalMeaning
 pub mod Entries
 pub mod IdleMeaning
 pub mod ImportMeaning

@@ -8,4 +8,4 @@ abbrev pub versionOf : ℕ → ℕ → ℕ → ℕ
 versionOf major minor patch = 65536 * major + 256 * minor + patch
 
 abbrev pub version : ℕ
-version = versionOf 1 5 0
+version = versionOf 1 6 0

@@ -10,7 +10,7 @@ use native.Mathlib.Omega.{arith}
 use Rattle.domains.specs.Masks.{Alive, Subset}
 use Rattle.domains.proofs.MasksLaws.{has-subset, fixed-has-subset}
 use Rattle.closing_model.specs.Table.{Table, Closed}
-use Rattle.closing_model.specs.Corners.{UpperCorner, LowerCorner, line}
+use Rattle.closing_model.specs.Corners.{UpperCorner, LowerCorner, line, boundLine}
 use Rattle.settling_model.specs.Settled.{Settled}
 use Rattle.settling_model.specs.Stable.{Stable, tableBounds}
 use Rattle.settling_model.proofs.StableLaws.{keeps-low-settled, keeps-high-settled}
@@ -18,7 +18,7 @@ use Rattle.settling_model.proofs.TableBoundsLaws.{stable-keeps}
 use Rattle.settling_model.proofs.CornersLaws.{corners-stable}
 use Rattle.segments_model.specs.Lines.{gain, loss}
 use Rattle.segments_model.proofs.LinesLaws.{corner-of-turn}
-use Rattle.filter_model.specs.Mirror.{boundLine, Corner, Mirror, Quiet, SettledAt, SettledFrom, Progress}
+use Rattle.filter_model.specs.Mirror.{Corner, Mirror, Quiet, SettledAt, SettledFrom, Progress}
 
 -- ---- Corner
 pub lower-corner : (n : ℕ) (T : Table) (v t : ℕ) → LowerCorner n (line (T .lower) n v) t → Corner true n T v t

@@ -9,12 +9,13 @@ use native.Mathlib.Omega.{arith}
 use Rattle.domains.specs.Masks.{Alive, Subset}
 use Rattle.domains.proofs.CountsLaws.{countHas-subset, countFixed-subset}
 use Rattle.closing_model.specs.Table.{Table}
+use Rattle.closing_model.specs.Corners.{boundLine}
 use Rattle.closing_model.proofs.PlaceLaws.{place-value, place-prefix}
 use Rattle.settling_model.specs.Stable.{Unstable, tableBounds}
 use Rattle.settling_model.proofs.TableBoundsLaws.{low-broken, high-broken}
 use Rattle.segments_model.specs.Lines.{lineOf, Rising, BrokenAt, Segments}
 use Rattle.segments_model.proofs.LinesLaws.{line-rising}
-use Rattle.filter_model.specs.Mirror.{boundLine, cellsOf, Mirror}
+use Rattle.filter_model.specs.Mirror.{cellsOf, Mirror}
 use Rattle.filter_model.specs.Open.{OpenSlots}
 use Rattle.filter_model.specs.Rises.{risesOf, TableRises}
 

@@ -11,12 +11,13 @@ use native.Mathlib.Omega.{arith}
 use lib.ListN.{length, getD, set, drop}
 use lib.Seq.{getD-take, getD-drop}
 use Rattle.closing_model.specs.Table.{Table}
+use Rattle.closing_model.specs.Corners.{boundLine}
 use Rattle.segments_model.specs.Lines.{cornerOf, gain, loss, Change, reserve, rowCorners, rowSlack, Segments}
 use Rattle.segments_model.specs.Part.{part, Lent}
 use Rattle.segments_model.proofs.EndLaws.{withEnd-inner, withReserve-inner}
 use Rattle.segments_model.proofs.PartLaws.{lent-apart}
 use Rattle.segments_model.proofs.SlackLaws.{change-before, change-after, slackOf-stays, segments-stays, segments-falls}
-use Rattle.filter_model.specs.Mirror.{boundLine, Corner, slackAt, cellsOf, Mirror}
+use Rattle.filter_model.specs.Mirror.{Corner, slackAt, cellsOf, Mirror}
 use Rattle.filter_model.specs.Strike.{Reach}
 
 -- ---- rows of n + 2 cells each

@@ -11,6 +11,7 @@ use native.Mathlib.Omega.{arith}
 use lib.ListN.{getD}
 use Rattle.domains.specs.Masks.{Subset}
 use Rattle.closing_model.specs.Table.{Table}
+use Rattle.closing_model.specs.Corners.{boundLine}
 use Rattle.settling_model.specs.Settled.{Settled}
 use Rattle.settling_model.specs.Stable.{Stable, tableBounds}
 use Rattle.settling_model.proofs.StableLaws.{low-cut, high-cut}
@@ -19,7 +20,7 @@ use Rattle.segments_model.specs.Cells.{Spent}
 use Rattle.segments_model.specs.Lines.{cornerOf, gain, loss}
 use Rattle.segments_model.proofs.SlackLaws.{segments-spent}
 use Rattle.filter_model.specs.Cuts.{BoundCut}
-use Rattle.filter_model.specs.Mirror.{boundLine, Corner, slackAt, row, Mirror, Quiet, Passed, Progress}
+use Rattle.filter_model.specs.Mirror.{Corner, slackAt, row, Mirror, Quiet, Passed, Progress}
 use Rattle.filter_model.proofs.MirrorLaws.{mirror-kept}
 use Rattle.filter_model.proofs.RowLaws.{row-first}
 

@@ -15,10 +15,11 @@ use Rattle.domains.specs.Masks.{HasAt}
 use Rattle.domains.proofs.MaskLaws.{testBit-clearBit-same, testBit-clearBit-other, fixed-single}
 use Rattle.domains.proofs.CountsLaws.{only-fixed, only-free}
 use Rattle.closing_model.specs.Table.{Table}
+use Rattle.closing_model.specs.Corners.{boundLine}
 use Rattle.segments_model.specs.Lines.{gain, loss, Change, rowCorners, rowSlack}
 use Rattle.segments_model.specs.Part.{Lent}
 use Rattle.segments_model.proofs.EndLaws.{row-lasts}
-use Rattle.filter_model.specs.Mirror.{boundLine, row, cellsOf, Mirror, Passed}
+use Rattle.filter_model.specs.Mirror.{row, cellsOf, Mirror, Passed}
 use Rattle.filter_model.specs.Open.{cellsSize, closeSlot, OpenSlots}
 use Rattle.filter_model.specs.Strike.{Reach, Dropped, Due, Struck}
 use Rattle.filter_model.proofs.OpenLaws.{open-lent, closeSlot-row, open-strike, open-single}

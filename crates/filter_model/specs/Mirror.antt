@@ -1,6 +1,5 @@
 -- The cells of all values and both kinds of bound, as a picture of a table and a list of masks. A kind is a Bool: true for the lower bounds.
---   boundLine kind n T v     the line of value v's bound in the table T
---   Corner kind n T v t      that line turns at t (document 01: a lower or an upper corner)
+--   Corner kind n T v t      the line of value v's bound in the table T turns at t (document 01: a lower or an upper corner)
 --   slackAt kind n T M v t   its slack on the masks M: P - lower, or upper - B
 --   row, cellsOf             the number of the row of a kind and value, the lower bounds' rows first; the cells of that row
 --   Mirror n k T M cells     each row holds the segments of T's bound on M, no corner is broken, and the set of open slots has those of M
@@ -17,15 +16,11 @@ use mathlib.Core.List.{List}
 use Prim.Native.Nat.{ℕ, _+_, _*_, _≤_, _<_}
 use Rattle.domains.specs.Masks.{HasAt, FixedAt}
 use Rattle.closing_model.specs.Table.{Table}
-use Rattle.closing_model.specs.Corners.{line}
+use Rattle.closing_model.specs.Corners.{boundLine}
 use Rattle.settling_model.specs.Settled.{Settled}
 use Rattle.segments_model.specs.Lines.{cornerOf, slackOf, Segments}
 use Rattle.segments_model.specs.Part.{part}
 use Rattle.filter_model.specs.Open.{OpenSlots}
-
-abbrev pub boundLine : Bool → ℕ → Table → ℕ → ℕ → ℕ
-boundLine true n T v = line (T .lower) n v
-boundLine false n T v = line (T .upper) n v
 
 pub record Corner (kind : Bool) (n : ℕ) (T : Table) (v t : ℕ) : Type 0 where
   pub from : 0 < t

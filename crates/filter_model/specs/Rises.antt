@@ -7,8 +7,8 @@ use mathlib.Core.Bool.{Bool, true, false}
 use mathlib.Core.List.{List}
 use Prim.Native.Nat.{ℕ, _<_}
 use Rattle.closing_model.specs.Table.{Table}
+use Rattle.closing_model.specs.Corners.{boundLine}
 use Rattle.segments_model.specs.Lines.{Rising}
-use Rattle.filter_model.specs.Mirror.{boundLine}
 
 abbrev pub risesOf : Bool → List ℕ → List ℕ → List ℕ
 risesOf true L U = L

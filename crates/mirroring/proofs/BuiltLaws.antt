@@ -14,11 +14,12 @@ use lib.Seq.{getD-set-same, getD-set-other}
 use Rattle.domains.specs.Mask.{testBit}
 use Rattle.domains.proofs.MaskLaws.{testBit-high, testBit-put-same, testBit-put-other}
 use Rattle.closing_model.specs.Table.{Table}
+use Rattle.closing_model.specs.Corners.{boundLine}
 use Rattle.segments_model.specs.Lines.{Rising, Segments}
 use Rattle.segments_model.specs.Part.{Lent}
 use Rattle.segments_model.proofs.PartLaws.{lent-apart}
 use Rattle.building.specs.Built.{BuildAnswer, Built}
-use Rattle.filter_model.specs.Mirror.{boundLine, row, cellsOf}
+use Rattle.filter_model.specs.Mirror.{row, cellsOf}
 use Rattle.filter_model.specs.Open.{wordsAt, cellsSize, OpenSlots}
 use Rattle.filter_model.specs.Rises.{risesOf, TableRises}
 use Rattle.filter_model.proofs.RisesLaws.{rises-mirror}

@@ -14,8 +14,9 @@ use lib.Count.{ones}
 use lib.ListN.{length, getD}
 use Rattle.domains.specs.Mask.{Has}
 use Rattle.closing_model.specs.Table.{Table}
+use Rattle.closing_model.specs.Corners.{boundLine}
 use Rattle.segments_model.specs.Lines.{Rising, BrokenAt, Segments}
-use Rattle.filter_model.specs.Mirror.{boundLine, cellsOf, Mirror}
+use Rattle.filter_model.specs.Mirror.{cellsOf, Mirror}
 use Rattle.filter_model.specs.Open.{wordsAt, cellsSize, openBit}
 use Rattle.filter_model.specs.Rises.{TableRises}
 

@@ -1,13 +1,13 @@
 // The exported entries: thin forms, for a host written in C or Rust. A slice crosses as a pointer and a length. Check, close, settle, session,
-// probe, open and import have no premise: each takes every slice of every length, and answers 0 (live; of check and import: a good book), 1 (dead) or
-// 256 + the number of a refusal. A step and a call rest on memory that an opening which was not refused, and what came after it, left. The contracts cite
+// probe, open, import and canonical have no premise: each takes every slice of every length, and answers 0 (live; of check and import: a good book), 1 (dead)
+// or 256 + the number of a refusal. A step and a call rest on memory that an opening which was not refused, and what came after it, left. The contracts cite
 // entries_model's `specs/Entries.antt` and `specs/Version.antt`, and kept_model's `specs/Kept.antt` and `specs/Entries.antt`.
 use answer::word;
 use book::Limits;
 use kept::Words;
 ghost use mathlib.Core.Path.{_≡_};
 ghost use Rattle.session_model.specs.Calls.{callOf};
-ghost use Rattle.entries_model.specs.Entries.{checkAnswer, CloseEntry, SettleEntry, SessionEntry, ImportEntry, ProbeEntry};
+ghost use Rattle.entries_model.specs.Entries.{checkAnswer, CloseEntry, SettleEntry, SessionEntry, ImportEntry, ProbeEntry, CanonicalEntry};
 ghost use Rattle.entries_model.specs.Version.{version};
 ghost use Rattle.kept_model.specs.Entries.{OpenEntry, KeptSteps, KeptCalls};
 ghost use Rattle.kept_model.specs.Kept.{Kept};
@@ -16,7 +16,7 @@ ghost use Rattle.kept_model.specs.Memory.{memory};
 // The version of this part.
 const MAJOR: u32 = 1;
 
-const MINOR: u32 = 5;
+const MINOR: u32 = 6;
 
 const PATCH: u32 = 0;
 
@@ -139,6 +139,14 @@ pub extern "C" fn nested_gcc_probe(book: &[u8], calls: &[u8], dead: &mut [u8]) -
         rows: ROWS,
     };
     word(probe::probe(book, limits, calls, dead))
+}
+
+// Writes the canonical book of book, a row for each corner of its closed table, into the front of out. Live and dead are those of closing alone.
+#[no_mangle]
+pub extern "C" fn nested_gcc_canonical(book: &[u8], out: &mut [u8]) -> u32
+    ensures { λ r. ⌜ CanonicalEntry (now (book .entry)) (now (out .entry)) r (now (out .exit)) ⌝ }
+{
+    word(canonical::canonical(book, out))
 }
 
 // The version of this part in one number.

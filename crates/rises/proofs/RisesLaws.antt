@@ -20,10 +20,9 @@ use Rattle.domains.proofs.MaskLaws.{testBit-high, testBit-put-same, testBit-put
 use Rattle.book.specs.Layout.{listOf}
 use Rattle.book.proofs.LayoutLaws.{length-listOf, getD-listOf}
 use Rattle.closing_model.specs.Table.{place, view, Closed}
-use Rattle.closing_model.specs.Corners.{Staircase, line}
+use Rattle.closing_model.specs.Corners.{Staircase, line, boundLine}
 use Rattle.closing_model.proofs.TableLaws.{closed-lower-staircase, closed-upper-staircase}
 use Rattle.segments_model.specs.Lines.{Rising}
-use Rattle.filter_model.specs.Mirror.{boundLine}
 use Rattle.filter_model.specs.Rises.{risesOf, TableRises}
 use Rattle.rises.specs.Rises.{grows, riseMask, riseMasks, overRises, Holds, Marks}
 use Rattle.filling.proofs.FillLaws.{Filled, filled-none, filled-more}

@@ -1,5 +1,6 @@
 -- The laws of `lineOf`, `Rising` and `cornerOf` of specs/Lines.antt. `rising-line`: the rises give one line. `corner-rises`: its corners are told
--- by the rises at t and t + 1 alone. `corner-of-turn`, `turn-of-corner`: the test of a corner as a fact, for either kind.
+-- by the rises at t and t + 1 alone. `corner-of-turn`, `turn-of-corner`: the test of a corner as a fact, for either kind;
+-- `corner-steps`, `steps-corner`: as the two steps.
 -- No contract cites this file. Assumes nothing.
 use mathlib.Core.Path.{_≡_, sym, ap₂, _∙_}
 use mathlib.Core.Bool.{Bool, true, false, not, _&&_, _||_, and-eq-true-iff}
@@ -76,6 +77,17 @@ cornerOf-steps : (kind : Bool) (n : ℕ) (u : ℕ → ℕ) (t : ℕ)
     → cornerOf kind n u t ≡ turn t n (u t) (u (t - 1) + bit kind) (u (t + 1)) (u t + bit (not kind))
 cornerOf-steps true n u t = rw (add-zero (u t))
 cornerOf-steps false n u t = rw (add-zero (u (t - 1)))
+
+-- a corner's two steps, of either kind: the kind's own into t, the other out of it
+pub corner-steps : (kind : Bool) (n : ℕ) (u : ℕ → ℕ) (t : ℕ) → cornerOf kind n u t ≡ true
+    → (u t ≡ u (t - 1) + bit kind) × ((t ≡ n → ⊥) → u (t + 1) ≡ u t + bit (not kind))
+corner-steps kind n u t corner =
+    turn-of-corner t n (u t) (u (t - 1) + bit kind) (u (t + 1)) (u t + bit (not kind)) (sym (cornerOf-steps kind n u t) ∙ corner)
+
+pub steps-corner : (kind : Bool) (n : ℕ) (u : ℕ → ℕ) (t : ℕ) → u t ≡ u (t - 1) + bit kind → ((t ≡ n → ⊥) → u (t + 1) ≡ u t + bit (not kind))
+    → cornerOf kind n u t ≡ true
+steps-corner kind n u t own other =
+    cornerOf-steps kind n u t ∙ corner-of-turn t n (u t) (u (t - 1) + bit kind) (u (t + 1)) (u t + bit (not kind)) own other
 
 -- lines that are equal up to n have the same corners
 pub cornerOf-same : (kind : Bool) (n : ℕ) (u w : ℕ → ℕ) → ((i : ℕ) → i ≤ n → u i ≡ w i) → (t : ℕ) → t ≤ n → cornerOf kind n u t ≡ cornerOf kind n w t

@@ -3,21 +3,18 @@
 --   Fitting R book w   what the rules and the book's masks give for that; `book-fitting`: they do, for 32 bits
 --   MasksInside, Small      what each call keeps of the state, and what it gives for its answer
 -- No contract cites this file. Assumes nothing.
-use mathlib.Core.Path.{_≡_, refl, sym, ap, _∙_, subst⁻¹}
-use mathlib.Core.Bool.{Bool, true, false}
+use mathlib.Core.Path.{_≡_, refl, sym, _∙_, subst⁻¹}
+use mathlib.Core.Bool.{Bool}
 use mathlib.Core.List.{List, [], _∷_}
 use mathlib.Core.Option.{Option, none, some, bind, Option·elim, Option·none-ne-some}
 use Prim.Native.Nat.{ℕ, zero, suc, _-_, _^_, _≤_, _<_, zero-le}
 use native.Mathlib.Nat.{lt-of-le-of-lt}
-use native.Mathlib.Numerals.{add-one}
 use native.Mathlib.Omega.{arith}
 use lib.Dec.{lit<}
 use lib.ListN.{getD, replicate, length-replicate}
 use Rattle.domains.specs.Masks.{Subset}
-use Rattle.domains.specs.Counts.{count, bit}
 use Rattle.domains.proofs.MaskLaws.{testBit-empty, mask-subset-below}
 use Rattle.domains.proofs.MasksLaws.{subset-trans, total-most, total-mono}
-use Rattle.domains.proofs.CountsLaws.{count-none, count-next}
 use Rattle.book.specs.Layout.{slots, values, masks}
 use Rattle.book.proofs.LayoutLaws.{length-masks}
 use Rattle.closing_model.specs.Table.{view}
@@ -26,18 +23,17 @@ use Rattle.settling_model.specs.Settling.{settling}
 use Rattle.book.specs.Lists.{All}
 use Rattle.settling_model.specs.Stable.{tableBounds}
 use Rattle.settling_model.proofs.SettlingLaws.{settling-largest}
-use Rattle.segments_model.specs.Cells.{standsAt}
-use Rattle.segments_model.specs.Lines.{cornerOf, slackOf}
 use Rattle.session_model.specs.Decisions.{cut}
 use Rattle.session_model.specs.Calls.{Call, decide, mark, back, show, walls, unknown}
 use Rattle.session_model.specs.State.{Rules, State, Reply, live, value, done, refused, words, wordsOf}
 use Rattle.session_model.specs.Refusal.{Refusal, unknownKind, slotOut, valueOut, noMark, whileDead, marksFull, number, refusal}
 use Rattle.session_model.specs.Machine.{decided, restored, act, stepBy, step, runs, wallless, shut, fresh}
 use Rattle.session_model.specs.BookRun.{rulesOf, stateAfter, repliesOf}
-use Rattle.session_model.specs.Walls.{boundLine, wallCount}
+use Rattle.session_model.specs.Walls.{wallCount}
 use Rattle.session_model.proofs.BookRunLaws.{rulesOf-settle, live-run, shut-run}
 use Rattle.session_model.proofs.CutLaws.{cut-subset}
 use Rattle.session_model.proofs.NewsLaws.{newsTotal-le}
+use Rattle.session_model.proofs.WallsLaws.{wallCount-most}
 
 pub record Fitting (R : Rules) (book : List ℕ) (w : ℕ) : Type 0 where
   -- every first word is below
@@ -170,15 +166,6 @@ module _ (b : List ℕ) (limit w : ℕ) (fitting : Fitting (rulesOf b limit) (ma
   masks-fit calls s = fitting .masks (stateAfter b limit calls .masks) (book-fits calls .0 .masks) s
 
 -- ---- 32 bits
-count-bits : (f : ℕ → Bool) (n : ℕ) → count (λ s. bit (f s)) n ≤ n
-count-bits f zero = omega (arith, count-none (λ s. bit (f s)))
-count-bits f (suc n) =
-    omega (arith, ap (count (λ s. bit (f s))) (add-one n), count-next (λ s. bit (f s)) n, count-bits f n, bit-most (f n))
-  where
-    bit-most : (x : Bool) → bit x ≤ 1
-    bit-most true = omega arith
-    bit-most false = omega arith
-
 -- the masks, the wall counts and the ones of a book of at most 256 slots, whose masks have 32 bits
 pub book-fitting : (b : List ℕ) (limit : ℕ) → slots b ≤ 256 → ((s : ℕ) → getD (masks b) s 0 < 2 ^ 32) → Fitting (rulesOf b limit) (masks b) 4294967296
 unfolding bind Option·elim
@@ -202,5 +189,5 @@ book-fitting b limit most below =
         → Option·elim o 0 (λ T. wallCount kind (slots b) (view (T .0) (T .1)) M v) < 4294967296
     walls-most none kind M v = lit< tt
     walls-most (some T) kind M v =
-        let line = boundLine kind (slots b) (view (T .0) (T .1)) v in
-        omega (arith, count-bits (λ t. standsAt (slots b) (cornerOf kind (slots b) line) (slackOf kind line M v) (suc t)) (slots b), most)
+        let walls : wallCount kind (slots b) (view (T .0) (T .1)) M v ≤ slots b = wallCount-most kind (slots b) (view (T .0) (T .1)) M v in
+        omega (arith, walls, most)

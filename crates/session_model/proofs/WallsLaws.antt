@@ -1,19 +1,22 @@
--- The laws of `specs/Walls.antt`: the cells that hold a bound's segments hold as many as the formula counts (`segments-wallCount`), and the
--- corners of a line are those of document 01's words (`corner-upper`, `upper-corner`, `corner-lower`, `lower-corner`). No contract cites this
--- file. Assumes nothing.
-use mathlib.Core.Path.{_≡_}
+-- The laws of `specs/Walls.antt`: the cells that hold a bound's segments hold as many as the formula counts (`segments-wallCount`), at most one an end
+-- (`wallCount-most`), and the corners of a line are those of document 01's words (`corner-upper`, `upper-corner`, `corner-lower`, `lower-corner`). No
+-- contract cites this file. Assumes nothing.
+use mathlib.Core.Path.{_≡_, ap}
 use mathlib.Core.Bool.{Bool, true, false}
 use mathlib.Core.List.{List}
-use Prim.Native.Nat.{ℕ, _+_, _-_, _≤_, _<_}
+use Prim.Native.Nat.{ℕ, zero, suc, _+_, _-_, _≤_, _<_}
+use native.Mathlib.Numerals.{add-one}
 use native.Mathlib.Omega.{arith}
+use Rattle.domains.specs.Counts.{count, bit}
+use Rattle.domains.proofs.CountsLaws.{count-none, count-next}
 use Rattle.closing_model.specs.Table.{Table}
-use Rattle.closing_model.specs.Corners.{UpperCorner, LowerCorner}
-use Rattle.segments_model.specs.Cells.{standingIn}
-use Rattle.segments_model.specs.Lines.{cornerOf, Segments}
+use Rattle.closing_model.specs.Corners.{UpperCorner, LowerCorner, boundLine}
+use Rattle.segments_model.specs.Cells.{standsAt, standingIn}
+use Rattle.segments_model.specs.Lines.{cornerOf, slackOf, Segments}
 use Rattle.segments_model.specs.Links.{gaps}
 use Rattle.segments_model.proofs.LinesLaws.{corner-of-turn, turn-of-corner}
 use Rattle.segments_model.proofs.SlackLaws.{segments-standing}
-use Rattle.session_model.specs.Walls.{boundLine, wallCount}
+use Rattle.session_model.specs.Walls.{wallCount}
 
 -- ---- corners
 module _ (n : ℕ) (u : ℕ → ℕ) (t : ℕ) where
@@ -37,3 +40,16 @@ module _ (n : ℕ) (u : ℕ → ℕ) (t : ℕ) where
 pub segments-wallCount : (kind : Bool) (n : ℕ) (T : Table) (M : List ℕ) (v : ℕ) (cells : List ℕ) → Segments kind n (boundLine kind n T v) M v cells
     → standingIn (gaps cells) n ≡ wallCount kind n T M v
 segments-wallCount kind n T M v cells segments = segments-standing segments
+
+count-bits : (f : ℕ → Bool) (n : ℕ) → count (λ s. bit (f s)) n ≤ n
+count-bits f zero = omega (arith, count-none (λ s. bit (f s)))
+count-bits f (suc n) =
+    omega (arith, ap (count (λ s. bit (f s))) (add-one n), count-next (λ s. bit (f s)) n, count-bits f n, bit-most (f n))
+  where
+    bit-most : (x : Bool) → bit x ≤ 1
+    bit-most true = omega arith
+    bit-most false = omega arith
+
+pub wallCount-most : (kind : Bool) (n : ℕ) (T : Table) (M : List ℕ) (v : ℕ) → wallCount kind n T M v ≤ n
+wallCount-most kind n T M v =
+    count-bits (λ t. standsAt n (cornerOf kind n (boundLine kind n T v)) (slackOf kind (boundLine kind n T v) M v) (suc t)) n

@@ -1,9 +1,11 @@
 //! Times the proved filter against plain ones, on the same random books in one run:
-//! `cargo run --release -p bench`, or with `-- close`, `-- settle`, `-- session` or `-- import` for one of them. With
-//! `-- replay FOLDER NAME..` it replays call scripts from files (see `replay.rs`). It prints ratios of medians, of
-//! imports those of least times; the times beside them are this machine's, at this moment.
+//! `cargo run --release -p bench`, or with `-- close`, `-- settle`, `-- session`, `-- canonical` or `-- import` for one
+//! of them; canonical is timed over close (see `canonical.rs`), also on books from files with `-- canonical FOLDER
+//! NAME..`. With `-- replay FOLDER NAME..` it replays call scripts from files (see `replay.rs`). It prints ratios of
+//! medians, of canonical and import those of least times; the times beside them are this machine's, at this moment.
 
 mod bounds;
+mod canonical;
 mod engine;
 mod import;
 mod in_place;
@@ -16,7 +18,7 @@ use std::env;
 use std::time::Instant;
 
 use bounds::Closing;
-use nested_gcc::{close_into, settle_into, Verdict, MASKS_BYTES, TABLE_BYTES};
+use nested_gcc::{close_into, settle_into, Verdict, BOOK_BYTES, MASKS_BYTES, TABLE_BYTES};
 use plain_filter::Book;
 use random_books::{bytes, masks_around, near_plan, plan, row_near_plan, Random};
 
@@ -41,17 +43,24 @@ fn tight_book(random: &mut Random, n: usize, k: usize, distance: usize) -> Book 
     book
 }
 
+fn random_tight_books(random: &mut Random, (n, k, distance): (usize, usize, usize)) -> Vec<Vec<u8>> {
+    (0..BOOKS).map(|_| bytes(&tight_book(random, n, k, distance))).collect()
+}
+
 /// What the contenders write.
 #[derive(PartialEq)]
 struct Outputs {
     lowers: Vec<u8>,
     uppers: Vec<u8>,
     masks: Vec<u8>,
+    book: Vec<u8>,
 }
 
 impl Outputs {
     fn new() -> Outputs {
-        Outputs { lowers: vec![0; TABLE_BYTES], uppers: vec![0; TABLE_BYTES], masks: vec![0; MASKS_BYTES] }
+        let [lowers, uppers, masks, book] =
+            [TABLE_BYTES, TABLE_BYTES, MASKS_BYTES, BOOK_BYTES].map(|length| vec![0; length]);
+        Outputs { lowers, uppers, masks, book }
     }
 }
 
@@ -152,16 +161,15 @@ fn run_contests(asked: impl Fn(&str) -> bool) {
     );
     for contest in [CLOSE, SETTLE].into_iter().filter(|contest| asked(contest.name)) {
         let mut random = Random::new(0x51ed_270b_9f3a_c84d);
-        for (n, k, distance) in SIZES {
-            let books: Vec<Vec<u8>> =
-                (0..BOOKS).map(|_| bytes(&tight_book(&mut random, n, k, distance))).collect();
+        for size in SIZES {
+            let books = random_tight_books(&mut random, size);
             assert_same(&contest, &books);
             let [proved, in_place, lanes] =
                 medians([contest.proved, contest.in_place, contest.lanes], &books, PASSES);
             let [naive] = medians([contest.naive], &books, NAIVE_PASSES);
             println!(
                 "{:14} {proved:>8.1} {in_place:>9.1} {lanes:>7.1} {naive:>9.1} {:>16.2} {:>13.2} {:>13.4}",
-                format!("{} {n}x{k}", contest.name),
+                format!("{} {}x{}", contest.name, size.0, size.1),
                 proved / in_place,
                 proved / lanes,
                 proved / naive,
@@ -173,8 +181,10 @@ fn run_contests(asked: impl Fn(&str) -> bool) {
 fn main() {
     let arguments: Vec<String> = env::args().skip(1).collect();
     if let [mode, folder, names @ ..] = arguments.as_slice() {
-        if mode == "replay" && !names.is_empty() {
-            return replay::run(folder, names);
+        match mode.as_str() {
+            "replay" if !names.is_empty() => return replay::run(folder, names),
+            "canonical" if !names.is_empty() => return canonical::run_files(folder, names),
+            _ => {}
         }
     }
     let only = arguments.first();
@@ -184,6 +194,9 @@ fn main() {
     }
     if asked("session") {
         session::run();
+    }
+    if asked("canonical") {
+        canonical::run();
     }
     if asked("import") {
         import::run();

@@ -9,9 +9,10 @@
 //!   last masks.
 //! - [`probe`] says which picks, each a type for a slot, would die on a book; [`menu`] gives the types that would live
 //!   in a slot.
+//! - [`canonical`] gives the one book for all that close to the same table, for an archive.
 //! - [`import_csv`] gives the book that orders in CSV say.
-//! - [`close_into`], [`settle_into`], [`session_into`], [`probe_into`] and [`import_csv_into`] write the same into the
-//!   caller's bytes.
+//! - [`close_into`], [`settle_into`], [`session_into`], [`probe_into`], [`canonical_into`] and [`import_csv_into`]
+//!   write the same into the caller's bytes.
 //! - [`Book`] writes the bytes of a book, [`Calls`] those of a list of calls.
 //! - [`version`] says which version of the archive is linked.
 //!
@@ -35,6 +36,7 @@
 
 mod book;
 mod calls;
+mod canonical;
 mod import;
 mod live;
 mod probe;
@@ -46,6 +48,7 @@ mod version;
 
 pub use book::Book;
 pub use calls::Calls;
+pub use canonical::{canonical, canonical_into};
 pub use import::{import_csv, import_csv_into};
 pub use live::{Decided, Live, Standing};
 pub use probe::{menu, probe, probe_into};

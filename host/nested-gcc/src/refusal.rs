@@ -48,10 +48,13 @@ pub enum Refusal {
     Quoting,
     /// 18: a record has the wrong number of fields, or a field, other than an empty upper, is not one to five digits.
     Field,
+    /// 19: the canonical book would need more than 1,024 rows. Only [`canonical`](crate::canonical) and
+    /// [`canonical_into`](crate::canonical_into) answer it.
+    TooManyRows,
 }
 
 /// Each refusal with its number and its words.
-const TABLE: [(Refusal, u32, &str); 15] = [
+const TABLE: [(Refusal, u32, &str); 16] = [
     (Refusal::TooShort, 1, "book under 12 bytes"),
     (Refusal::OutOfRange, 2, "n, k or r out of range"),
     (Refusal::IdleType, 3, "byte 3 above k"),
@@ -67,6 +70,7 @@ const TABLE: [(Refusal, u32, &str); 15] = [
     (Refusal::CallType, 13, "type k or more"),
     (Refusal::Quoting, 17, "quoting or a line end breaks RFC 4180"),
     (Refusal::Field, 18, "wrong number of fields, or a field not one to five digits"),
+    (Refusal::TooManyRows, 19, "the canonical book needs more than 1,024 rows"),
 ];
 
 impl Refusal {

@@ -68,6 +68,7 @@ extern "C" {
         dead: *mut u8,
         dead_len: usize,
     ) -> u32;
+    fn nested_gcc_canonical(book: *const u8, book_len: usize, out: *mut u8, out_len: usize) -> u32;
     fn nested_gcc_import_csv(text: *const u8, text_len: usize, book: *mut u8, book_len: usize) -> u32;
     fn nested_gcc_open_in(
         book: *const u8,
@@ -191,6 +192,14 @@ pub fn probe(book: &[u8], calls: &[u8], dead: &mut [u8]) -> u32 {
             dead.len(),
         )
     }
+}
+
+/// 0 for a live book, whose canonical book is then in the front of `out`; 1 for a dead one; else 256 + the refusal
+/// number.
+pub fn canonical(book: &[u8], out: &mut [u8]) -> u32 {
+    // SAFETY: as for `check`; the output is a slice too, writable, and apart from the book, since it is borrowed
+    // mutably.
+    unsafe { nested_gcc_canonical(book.as_ptr(), book.len(), out.as_mut_ptr(), out.len()) }
 }
 
 impl State {

@@ -22,8 +22,8 @@ impl fmt::Display for Version {
 /// ```
 /// use nested_gcc::version;
 ///
-/// assert_eq!(version().to_string(), "1.5.0");
-/// assert_eq!((version().major, version().minor), (1, 5));
+/// assert_eq!(version().to_string(), "1.6.0");
+/// assert_eq!((version().major, version().minor), (1, 6));
 /// ```
 pub fn version() -> Version {
     let number = sys::version();

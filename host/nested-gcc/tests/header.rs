@@ -53,6 +53,7 @@ fn the_refusals_are_the_same_in_the_header_and_here() {
         ("TOO_MANY_MARKS", CallRefusal::TooManyMarks.number(), 16),
         ("QUOTING", Refusal::Quoting.number(), 17),
         ("FIELD", Refusal::Field.number(), 18),
+        ("TOO_MANY_ROWS", Refusal::TooManyRows.number(), 19),
     ];
     assert_eq!(defined("NESTED_GCC_REFUSED"), 256);
     for (name, here, typed) in refusals {

@@ -76,6 +76,7 @@ extern "C" {
         dead: *mut u8,
         dead_len: usize,
     ) -> u32;
+    fn nested_gcc_canonical(book: *const u8, book_len: usize, out: *mut u8, out_len: usize) -> u32;
 }
 
 /// One slot, two types, no rows: live, with mask 3.
@@ -269,6 +270,45 @@ fn probe_with_null() {
     // Nothing NULL.
     assert_eq!(probe(Some(&LIVE), Some(&pick), true), (0, [0, OLD]));
     assert_eq!(probe(Some(&DEAD), Some(&pick), true), (1, [1, OLD]));
+}
+
+/// `nested_gcc_canonical` with `None` as NULL and 0, and what it left in the output if that is lent.
+fn canonical(book: Option<&[u8]>, with_out: bool) -> (u32, [u8; 17]) {
+    let mut out = [OLD; 17];
+    let (out_at, out_len) = if with_out { (out.as_mut_ptr(), 17) } else { (null_mut(), 0) };
+    let (book_at, book_len) = book.map_or((null(), 0), |book| (book.as_ptr(), book.len()));
+    // SAFETY: each pointer has so many bytes, apart from the other, or is NULL with length 0.
+    let answer = unsafe { nested_gcc_canonical(book_at, book_len, out_at, out_len) };
+    (answer, out)
+}
+
+#[test]
+fn canonical_with_null() {
+    let old = [OLD; 17];
+    // No book: 1, whether there is room for another or not.
+    assert_eq!(canonical(None, false), (257, old));
+    assert_eq!(canonical(None, true), (257, old));
+    // 9: there is no room for the canonical book. The other numbers come before it, and so does dead.
+    assert_eq!(canonical(Some(&LIVE), false), (265, old));
+    assert_eq!(canonical(Some(&LIVE[..15]), false), (260, old));
+    assert_eq!(canonical(Some(&DEAD), false), (1, old));
+    assert_eq!(canonical(Some(&DEAD), true), (1, old));
+    // Nothing NULL: LIVE is its own canonical book.
+    let (answer, out) = canonical(Some(&LIVE), true);
+    assert_eq!((answer, &out[..16], out[16]), (0, &LIVE[..], OLD));
+}
+
+/// 19 comes before 9: 256 slots and 32 types; of type 0 one within 2 slots, two within 4, up to 33 within 66. That
+/// needs 33 rows for each type.
+#[test]
+fn canonical_of_too_many_rows_with_null() {
+    let mut book = vec![0, 1, 32, 0, 33, 0, 12, 0, 12, 4, 20, 5];
+    book.extend([255; 4 * 256]);
+    for step in 1..=33 {
+        book.extend([0, 0, 2 * step, 0, step, 0, 255, 255]);
+    }
+    assert_eq!(canonical(Some(&book), false), (275, [OLD; 17]));
+    assert_eq!(canonical(Some(&book), true), (275, [OLD; 17]));
 }
 
 /// A state, all of its numbers 7.

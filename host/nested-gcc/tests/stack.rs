@@ -10,9 +10,9 @@ use std::ptr;
 use std::thread;
 
 use nested_gcc::{
-    check, close_into, import_csv_into, probe_into, session_into, settle_into, Book, CallRefusal, Calls,
-    Decided, Live, Refusal, Standing, Verdict, ANSWERS_BYTES, BOOK_BYTES, MASKS_BYTES, PROBES_BYTES,
-    TABLE_BYTES,
+    canonical_into, check, close_into, import_csv_into, probe_into, session_into, settle_into, Book,
+    CallRefusal, Calls, Decided, Live, Refusal, Standing, Verdict, ANSWERS_BYTES, BOOK_BYTES, MASKS_BYTES,
+    PROBES_BYTES, TABLE_BYTES,
 };
 use random_books::{bytes, masks_around, near_plan, plan, with_idle, Random};
 
@@ -23,6 +23,7 @@ const BOOKS: usize = 1_000;
 const CHECK: usize = 4 * 1024;
 const IMPORT: usize = 4 * 1024;
 const CLOSE: usize = 48 * 1024;
+const CANONICAL: usize = 48 * 1024;
 const SETTLE: usize = 320 * 1024;
 const SESSION: usize = 512 * 1024;
 const PROBE: usize = 320 * 1024;
@@ -190,6 +191,35 @@ fn close_needs_at_most_the_promised_stack() {
     measure(CLOSE, |book| close_into(book, &mut lowers, &mut uppers), &books);
     let short = [("an output too short", longest.to_bytes(), Err(Refusal::OutputTooShort))];
     measure(CLOSE, |book| close_into(book, &mut lowers, &mut uppers[1..]), &short);
+}
+
+/// 256 slots and 32 types; of type 0 one within 2 slots, two within 4, and so on: a corner of each type at each of
+/// these ends.
+fn staircase(steps: u16) -> Book {
+    (1..=steps).fold(Book::new(256, 32), |book, step| book.row(0, 2 * step, step, None))
+}
+
+#[test]
+fn canonical_needs_at_most_the_promised_stack() {
+    let longest = almost_longest().row(31, 256, 8, None);
+    let late_fault = almost_longest().row(31, 256, 257, None);
+    // 32 types with at least 8 each in 256 slots leave no room for a ninth.
+    let dead = almost_longest().row(31, 256, 9, None);
+    let books = [
+        // Just 8 of each of 32 types: a row for each.
+        ("canonical: the longest book", longest.to_bytes(), Ok(Some(12 + 4 * 256 + 8 * 32))),
+        ("canonical: 1,024 rows", staircase(32).to_bytes(), Ok(Some(BOOK_BYTES))),
+        ("canonical: 1,056 rows", staircase(33).to_bytes(), Err(Refusal::TooManyRows)),
+        ("canonical: 4,096 rows", staircase(128).to_bytes(), Err(Refusal::TooManyRows)),
+        ("canonical: a dead book", dead.to_bytes(), Ok(None)),
+        ("canonical: a fault in the last row", late_fault.to_bytes(), Err(Refusal::RowBound)),
+        ("canonical: the shortest book", Book::new(1, 1).to_bytes(), Ok(Some(24))),
+        ("canonical: no bytes", Vec::new(), Err(Refusal::TooShort)),
+    ];
+    let mut out = vec![0; BOOK_BYTES];
+    measure(CANONICAL, |book| canonical_into(book, &mut out), &books);
+    let short = [("canonical: an output too short", staircase(32).to_bytes(), Err(Refusal::OutputTooShort))];
+    measure(CANONICAL, |book| canonical_into(book, &mut out[1..]), &short);
 }
 
 #[test]

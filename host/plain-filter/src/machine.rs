@@ -131,7 +131,7 @@ impl Machine {
 }
 
 /// Whether the closed table has a corner of the kind and type at t, which is at least 1.
-fn is_corner(table: &Table, kind: Walls, v: usize, t: usize) -> bool {
+pub(crate) fn is_corner(table: &Table, kind: Walls, v: usize, t: usize) -> bool {
     let (upper, lower) = (&table.upper[v], &table.lower[v]);
     let n = upper.len() - 1;
     match kind {

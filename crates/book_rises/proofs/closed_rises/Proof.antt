@@ -4,7 +4,7 @@ use mathlib.Core.Path.{sym, _∙_}
 use Prim.Native.Nat.{_≤_}
 use lib.Seq.{length-take-le}
 use borrow.Author.Needs.{needs}
-use Rattle.book_rises.proofs.RisesLaws.{entries-most}
+use Rattle.settle_fault.proofs.ClosedLaws.{entries-most}
 use Rattle.book_rises.proofs.closed_rises.Statement.{statement}
 use Rattle.book_rises.proofs.closed_rises.Tie as tie
 

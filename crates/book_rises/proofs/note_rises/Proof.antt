@@ -4,7 +4,8 @@
 use mathlib.Core.Path.{sym, _∙_}
 use native.Mathlib.Omega.{arith}
 use borrow.Author.Needs.{needs}
-use Rattle.book_rises.proofs.RisesLaws.{wrote-closed, wrote-none, notes-live, notes-dead, fit-holds}
+use Rattle.settle_fault.proofs.ClosedLaws.{wrote-closed, wrote-none}
+use Rattle.book_rises.proofs.RisesLaws.{notes-live, notes-dead, fit-holds}
 use Rattle.book_rises.proofs.note_rises.Statement.{statement}
 use Rattle.book_rises.proofs.note_rises.Tie as tie
 

@@ -1,6 +1,8 @@
 //! Small random books, and what `docs/SPECIFICATION.md`, section 4, defines on them: every stable list and every plan,
 //! found by listing every list there is.
 
+#![allow(dead_code)] // not every test uses all of it
+
 use plain_filter::{Book, Row, Table};
 use random_books::{every_type, masks_around, near_plan, plan, Random};
 

@@ -1,0 +1,5 @@
+pub mod CanonicalLaws
+pub mod CornerRowsLaws
+pub mod OrderLaws
+pub mod OutcomeLaws
+mod Worked

@@ -1,0 +1,4 @@
+pub mod CornersLaws
+pub mod FilledLaws
+pub mod FillingLaws
+pub mod GivenLaws
