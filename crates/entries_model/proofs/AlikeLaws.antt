@@ -1,5 +1,6 @@
 -- Books of the same parts that close to the same table are answered alike: `same-alike`, from `SameBook` to `AnswersAlike` of `specs/CanonicalMeaning.antt`. A
--- session's rules have slots, types, byte 3 and the closed table of a book, and nothing else of it (`rules-same`). No contract cites this file. Assumes nothing.
+-- session's rules have slots, types, byte 3 and the closed table of a book, and nothing else of it (`rulesOf`). No contract cites this file.
+-- Assumes nothing.
 use mathlib.Core.Path.{_≡_, refl, sym, subst, _∙_}
 use mathlib.Core.List.{List}
 use Prim.Native.Nat.{ℕ}
@@ -29,12 +30,14 @@ module _ {b c : List ℕ} (good : GoodBook fullLimits b) (same : SameBook b c) w
   session-same : (calls : List ℕ) (A M : ℕ) → sessionOf fullLimits c calls A M ≡ sessionOf fullLimits b calls A M
   unfolding sessionOf sessionFault sessionGood
   session-same calls A M =
-      rw (unrefused, same .settles-same, same .closes-same, same .parts .masks-same, same .parts .slots-same, same .parts .types-same, same .parts .byte-3-same) refl
+      let parts = same .parts in
+      rw (unrefused, same .settles-same, same .closes-same, parts .masks-same, parts .slots-same, parts .types-same, parts .byte-3-same) refl
 
   probe-same : (calls D : List ℕ) → probe fullLimits c calls D ≡ probe fullLimits b calls D
   unfolding probe probeFault
   probe-same calls D =
-      rw (unrefused, same .settles-same, same .closes-same, same .parts .masks-same, same .parts .slots-same, same .parts .types-same, same .parts .byte-3-same) refl
+      let parts = same .parts in
+      rw (unrefused, same .settles-same, same .closes-same, parts .masks-same, parts .slots-same, parts .types-same, parts .byte-3-same) refl
 
   pub same-alike : AnswersAlike b c
   same-alike =
