@@ -1,5 +1,6 @@
 // What each call but a decision does to a session on the segment engine, where no number refuses it: as the plain machine of session_model does.
 // The contracts cite `specs/Given.antt`, `specs/Represents.antt` and `specs/Answers.antt`.
+#![tactic(auto)]
 mod act; // act.rt: what each call but a decision does
 mod flags; // flags.rt: the flags in a standing
 

@@ -1,6 +1,7 @@
 // Tables, lists of masks and the pile of saved masks as arrays of fixed length, and sums that stay within their range: for the plain filter and the
 // random books of the tests. The contracts say nothing, so it is proved to be safe and to end, and no more. Nothing is refused: what lies outside an
 // array reads as 0, and a store there does nothing.
+#![tactic(auto)]
 
 // 256 numbers.
 pub type Numbers = [usize; 256];

@@ -1,5 +1,6 @@
 // The rules across the values at eight prefixes side by side, by sums over the values that are held in scalars. Nothing is refused here; where a sum
 // is on the wrong side of its prefix, or does not fit in 16 bits, the answer is that this way does not fit. The contracts cite `specs/Band.antt`.
+#![tactic(auto)]
 ghost use Rattle.std.specs.Prelude.{◌≡◌, ◌+◌, ◌-◌, ◌≤◌, ◌<◌, length};
 ghost use Rattle.closing_model.specs.Table.{view, size};
 ghost use Rattle.closing_model.specs.Sweep.{Did};

@@ -1,5 +1,6 @@
 // Order books: where the parts of one stand among its bytes, and what a reader answers.
 // The contracts cite `specs/Layout.antt` in the module layout, `specs/Refusal.antt` here.
+#![tactic(auto)]
 mod layout; // layout.rt: the numbers, masks and rows at their places
 
 ghost use Rattle.std.specs.Prelude.{◌≡◌};

@@ -1,4 +1,5 @@
 // A call from its bytes, and the number that refuses it. The contracts cite `specs/Given.antt`, `specs/Refuses.antt` and `call_at` of session_model.
+#![tactic(auto)]
 mod bytes; // bytes.rt: a call from its bytes
 mod refuse; // refuse.rt: the number that refuses a call
 

@@ -1,6 +1,7 @@
 // The rows of the canonical book (document 02, request six), from a table whose lines grow by 0 or 1 at each step: counted, and written, 8 bytes each, by type,
 // then end. Nothing is refused: each function requires just the entries that it reads and the room that it writes to. The contracts cite canonical_model's
 // `specs/CornerRows.antt` and `specs/Lines.antt`.
+#![tactic(auto)]
 mod counting; // counting.rt: how many rows there are
 mod turns; // turns.rt: whether a line turns
 mod writing; // writing.rt: the rows, written

@@ -1,4 +1,5 @@
 // Closing from bytes to bytes, at document 01's limits. The contract cites entries_model's `specs/Entries.antt`.
+#![tactic(auto)]
 ghost use Rattle.entries_model.specs.Entries.{CloseEntry};
 
 use answer::{Answer, word};

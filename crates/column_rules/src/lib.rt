@@ -1,5 +1,6 @@
 // The rules across the values at one prefix, and at some prefixes one after the other, by sums over the values that are held in scalars. Nothing is refused here.
 // The contracts cite specs/Answer.antt, and `SumsAre` and `Across` of closing_model's specs/Sweep.antt.
+#![tactic(auto)]
 ghost use Rattle.std.specs.Prelude.{◌+◌, ◌≤◌};
 ghost use Rattle.closing_model.specs.Table.{view, size};
 ghost use Rattle.closing_model.specs.Sweep.{SumsAre, Across};

@@ -1,6 +1,7 @@
 // The corners of one value's line, read from the rises of a bound, and the counts by which the slack at a corner is known: the line there, and how
 // many of the slots before it count for the kind. `lower` is the kind: true for the lower bound. Nothing is refused here. The contracts cite
 // `specs/Turn.antt` and the definitions of segments_model.
+#![tactic(auto)]
 ghost use Rattle.std.specs.Prelude.{◌≡◌, ◌^◌, ◌<◌, ◌≤◌, eqb, length, get_or};
 ghost use Rattle.domains.specs.Mask.{test_bit};
 ghost use Rattle.domains.specs.Counts.{bit};

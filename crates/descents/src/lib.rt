@@ -1,5 +1,6 @@
 // The fall of one row of cells, told by its reach and by what takes it back. Nothing is refused here. The contracts cite `specs/Told.antt` and the
 // definitions of filter_model.
+#![tactic(auto)]
 ghost use Rattle.std.specs.Prelude.{◌≡◌, cond, ◌+◌, ◌*◌, ◌-◌, ◌<◌, ◌≤◌, ltb, length, get_or};
 ghost use Rattle.segments_model.specs.Part.{Lent};
 ghost use Rattle.filter_model.specs.Strike.{Dropped};

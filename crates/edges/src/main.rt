@@ -2,6 +2,7 @@
 // what each must answer; the file `stdout` was written from document 01. What is printed is compared with it and not proved: the contracts say no
 // more than safety needs, and what does not fit an array is left out.
 // A line is a name and a colon, which are printed, and then words with numbers after them, parted by single spaces. A line that begins with # is none.
+#![tactic(auto)]
 mod answers; // answers.rt: words that run an entry and print its answer
 
 use answers::run_answers;

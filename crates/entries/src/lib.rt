@@ -1,5 +1,6 @@
 // The entries at document 01's limits, typed, for callers written in Rattle. No entry has a premise: every slice of every length gets an
 // answer. The contracts cite the definitions of the entries with limits, at entries_model's `full_limits`.
+#![tactic(auto)]
 ghost use Rattle.std.specs.Prelude.{◌≡◌, length};
 ghost use Rattle.answer.specs.Answer.{word_of};
 ghost use Rattle.book.specs.Refusal.{refusal, number_of};
@@ -66,7 +67,7 @@ pub fn session(book: &[u8], calls: &[u8], answers: &mut [u32], masks: &mut [u32]
 pub fn import_csv(text: &[u8], book: &mut [u8]) -> Answer
     ensures { ImportEntry text.now book.old (word_of result) book.new }
 {
-    csv::import_csv(text, book)
+    csv_import::import_csv(text, book)
 }
 
 // Writes a byte for each assign call of the list into the front of dead: 1 where that assignment alone, on the opened book, is answered dead.

@@ -1,6 +1,7 @@
 // Corners put into the cells of one row, from the last to the first: the cells emptied, a prefix visited, a corner inserted before those that the cells
 // hold, links made to lead to the first right end (the crate `segments` says what a cell holds). A broken corner is answered; nothing is refused
 // here. The contracts cite `specs/Visit.antt` and the definitions of segments_model.
+#![tactic(auto)]
 ghost use Rattle.std.specs.Prelude.{◌≡◌, ◌+◌, ◌-◌, ◌<◌, ◌≤◌, length, get_or};
 ghost use Rattle.segments_model.specs.Build.{Inserted, Pointed};
 ghost use Rattle.segments_model.specs.Links.{Fresh};

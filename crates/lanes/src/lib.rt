@@ -1,5 +1,6 @@
 // Eight numbers of 16 bits side by side, each in a field of its own: a loop on them takes all eight at once. Nothing is refused here.
 // The contracts cite `specs/Lanes.antt`.
+#![tactic(auto)]
 ghost use Rattle.std.specs.Prelude.{◌≡◌, ◌+◌, ◌-◌, ◌<◌, min, ltb, length, get_or};
 ghost use Rattle.std.proofs.lemmas.List.Edits.{sets};
 ghost use Rattle.lanes.specs.Lanes.{lanes, lane, total, Eightfold};

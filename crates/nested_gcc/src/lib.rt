@@ -2,6 +2,7 @@
 // probe, open, import and canonical have no premise: each takes every slice of every length, and answers 0 (live; of check and import: a good book), 1 (dead)
 // or 256 + the number of a refusal. A step and a call rest on memory that an opening which was not refused, and what came after it, left. The contracts cite
 // entries_model's `specs/Entries.antt` and `specs/Version.antt`, and kept_model's `specs/Kept.antt` and `specs/Entries.antt`.
+#![tactic(auto)]
 ghost use Rattle.std.specs.Prelude.{◌≡◌};
 ghost use Rattle.session_model.specs.Calls.{call_of};
 ghost use Rattle.entries_model.specs.Entries.{check_answer, CloseEntry, SettleEntry, SessionEntry, ImportEntry, ProbeEntry, CanonicalEntry};
@@ -126,7 +127,7 @@ pub extern "C" fn nested_gcc_call_in(
 pub extern "C" fn nested_gcc_import_csv(text: &[u8], book: &mut [u8]) -> u32
     ensures { ImportEntry text.now book.old result book.new }
 {
-    word(csv::import_csv(text, book))
+    word(csv_import::import_csv(text, book))
 }
 
 // Which assign calls of a list would die, each alone on the opened book: a byte a call, 1 for dead.

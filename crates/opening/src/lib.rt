@@ -1,6 +1,7 @@
 // Opening: builds the cells from a table's rises and the masks, and settles everything before each row's spent corner, so that the masks are
 // stable; or finds that no stable list is left. Nothing is refused here. The contracts cite `specs/Opened.antt` and the definitions of filter and
 // filter_model.
+#![tactic(auto)]
 ghost use Rattle.std.specs.Prelude.{◌<◌};
 ghost use Rattle.filter.specs.Filtered.{Filtered};
 ghost use Rattle.opening.specs.Opened.{Anything, Opening, QuietValue, QuietBelow, Rooms, OpenAnswer};

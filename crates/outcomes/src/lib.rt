@@ -1,5 +1,6 @@
 // What a call of the filter led to, and the number that stands for it: twice the trail's height, and one more for a dead end, so that it is returned in
 // a register. Nothing is refused here. The contracts cite `specs/Codes.antt`.
+#![tactic(auto)]
 ghost use Rattle.std.specs.Prelude.{◌≡◌, ◌+◌, ◌*◌, ◌<◌};
 ghost use Rattle.outcomes.specs.Codes.{height_of, is_dead, outcome_of};
 ghost use Rattle.outcomes.specs.declared.Outcome.TheVariants.{Live, Dead};

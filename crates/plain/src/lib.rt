@@ -3,6 +3,7 @@
 // opinion, and what it answers is worth what its reading of document 01 is worth. No care is taken for speed.
 //
 // At most 31 slots and 8 types. Whatever lies outside an array reads as 0, and a store there does nothing (the crate `arrays`, the one that it stands on).
+#![tactic(auto)]
 mod lists; // lists.rt: settling, the rules of a stable list repeated
 mod machine; // machine.rt: the plain machine of sessions
 mod tables; // tables.rt: closing, the rules of a closed table repeated

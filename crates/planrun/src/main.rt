@@ -2,6 +2,7 @@
 // masks, or the number that refuses the two. A file that cannot be opened counts as empty. Where a read fails, what was read before it counts as
 // the file: nothing, if it is the first read. Of a longer file than any good one just enough is read that its length refuses it. What is printed is
 // tested, not proved: the work is `session::run_session`.
+#![tactic(auto)]
 ghost use Rattle.std.specs.Prelude.{◌*◌, ◌≤◌, length};
 
 use answer::Answer;

@@ -5,6 +5,7 @@
 //
 // The file stdout was not written by this program. A program in Rust, which is not kept here, made the same books and calls from the same
 // random numbers, ran them through host/plain-filter, which has no code in common with the crate plain, and printed these counts.
+#![tactic(auto)]
 mod compare; // compare.rt: the engine against the plain filter, step by step
 
 use compare::{compare_check, compare_closing, compare_session, compare_settling};

@@ -1,6 +1,7 @@
 // The right ends of a row of cells: how far a link leads, the last right end before a slot, and what becomes of one whose gap is used up: its segment is
 // spent, or joined to the one before. A cell below 1024 is a right end, from 1024 on it is a link (segments_model's `specs/Links.antt`). Nothing is
 // refused here. The contracts cite the definitions of segments_model.
+#![tactic(auto)]
 ghost use Rattle.std.specs.Prelude.{◌≡◌, ◌+◌, ◌-◌, ◌<◌, ◌≤◌, length, get_or, set};
 ghost use Rattle.segments_model.specs.Links.{gaps};
 ghost use Rattle.segments_model.specs.Search.{Latest};

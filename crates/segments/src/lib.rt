@@ -2,6 +2,7 @@
 // after a slot. Cell 0 is the spent corner. A later cell below 1024 is a right end, one less than its gap; from 1024 on it is a link to a later
 // place, 1024 to the next one, that jumps no right end. `fall_in` takes a row of n slots, its cells from 0 to n + 1. Nothing is refused here. The
 // contracts cite `specs/UsedUp.antt`, `specs/Fell.antt` and the definitions of segments_model.
+#![tactic(auto)]
 ghost use Rattle.std.specs.Prelude.{◌+◌, ◌<◌, ◌≤◌, length};
 ghost use Rattle.segments_model.specs.Part.{Lent};
 ghost use Rattle.segments.specs.UsedUp.{UsedUp};

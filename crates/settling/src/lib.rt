@@ -2,6 +2,7 @@
 // `settle` refuses by the book's numbers 1 to 8, then by 9 where the lent output is too short; every book and every length gets an answer.
 // Its limits may be any for which the working arrays have room.
 // The contracts cite settle_fault's `specs/Settle.antt` and `specs/Ready.antt`.
+#![tactic(auto)]
 ghost use Rattle.std.specs.Prelude.{◌≡◌, length};
 ghost use Rattle.answer.specs.Answer.{word_of};
 ghost use Rattle.settling_model.specs.Book.{settled_book};

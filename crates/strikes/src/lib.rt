@@ -1,6 +1,7 @@
 // One strike: takes a value out of a slot, lets the value's row of cells fall, and that of a value which gets to be the slot's only one, and writes
 // the trail; what follows from it is the filter's. Nothing is refused here. The contract cites `specs/Answers.antt` and the definitions of
 // filter_model.
+#![tactic(auto)]
 ghost use Rattle.std.specs.Prelude.{◌<◌};
 ghost use Rattle.domains.specs.Masks.{HasAt};
 ghost use Rattle.filter_model.specs.State.{Ready};

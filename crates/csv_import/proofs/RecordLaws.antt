@@ -1,0 +1,185 @@
+-- The laws of `specs/Read.antt`. No contract cites this file. The ones that matter most: `counting_more`, `counting_line`, `counting_broken` (a turn of the
+-- loop over the fields), `read_fault` (what the code tests is what csv_model's `record_fault` says), `read_row` and `read_head` (the numbers of a good record).
+-- Assumes nothing.
+use mathlib.Core.Path.{◌≡◌, refl, sym, ap, ◌∙◌}
+use mathlib.Core.Logic.{dite}
+use mathlib.Core.Bool.{Bool, true, false, not, ◌&&◌, ◌||◌}
+use mathlib.Core.List.{List, [], ◌∷◌}
+use Prim.Native.Nat.{ℕ, suc, ◌+◌, ◌-◌, ◌≤◌, ◌<◌}
+use native.Mathlib.Numerals.{add-one}
+use native.Mathlib.Omega.{arith}
+use native.Mathlib.Decide.{dec_le}
+use lib.Dec.{eqb, ltb, lit<}
+use lib.ListN.{length, drop, length-drop}
+use borrow.Author.Tests.{eqb-true, not-false, eq-eqb, ne_eqb, le-leb, lt-leb, le-ltb, lt-ltb}
+use Rattle.book.specs.Refusal.{fault, ◌or_else◌}
+use Rattle.book.proofs.RefusalLaws.{none_of_or, none_of_or_else, fault_none}
+use Rattle.csv_model.specs.declared.Figure.{Figure}
+use Rattle.csv_model.specs.declared.Ending.TheVariants.{Comma, Line, Broken}
+use Rattle.csv_model.specs.Csv.{Record, field, record_of}
+use Rattle.csv_model.specs.Import.{bad_field, bad_fields, record_fault, said_at, row_of}
+use Rattle.csv_model.proofs.CsvLaws.{field_shorter, record_comma, record_line, record_broken}
+use Rattle.csv_import.specs.declared.Part.{Part}
+use Rattle.csv_import.specs.Part.{PartOf}
+use Rattle.csv_import.specs.declared.Tally.{Tally}
+use Rattle.csv_import.specs.declared.Read.{Read}
+use Rattle.csv_import.specs.Read.{no_fields, added, tallied, fault_of, ReadOf}
+
+-- ---- tallied
+tallied_more : (t : Tally) (f : Figure) (fs : List Figure) → tallied t (f ∷ fs) ≡ tallied (added t f) fs
+unfolding tallied
+tallied_more t f fs = refl
+
+tallied_none : (t : Tally) → tallied t [] ≡ t
+unfolding tallied
+tallied_none t = refl
+
+tallied_count : (t : Tally) (fs : List Figure) → (tallied t fs).count ≡ t.count + length fs
+unfolding tallied
+tallied_count t [] = omega arith
+tallied_count t (f ∷ fs) = tallied_count (added t f) fs ∙ omega arith
+
+or_swap : (x y z : Bool) → (x || (y || z)) ≡ ((y || x) || z)
+or_swap true true z = refl
+or_swap true false z = refl
+or_swap false true z = refl
+or_swap false false z = refl
+
+tallied_bad : (t : Tally) (fs : List Figure) → (tallied t fs).bad ≡ (bad_fields t.count fs || t.bad)
+unfolding tallied bad_fields
+tallied_bad t [] = refl
+tallied_bad t (f ∷ fs) =
+    tallied_bad (added t f) fs ∙ ap (λ (i : ℕ). bad_fields i fs || (bad_field t.count f || t.bad)) (add-one t.count)
+    ∙ or_swap (bad_fields (suc t.count) fs) (bad_field t.count f) t.bad
+
+or_none : (x : Bool) → (x || false) ≡ x
+or_none true = refl
+or_none false = refl
+
+tallied_four : (fs : List Figure) → length fs ≡ 4 → (tallied no_fields fs).last ≡ row_of fs
+unfolding tallied
+tallied_four [] long = absurd (omega arith)
+tallied_four (a ∷ []) long = absurd (omega arith)
+tallied_four (a ∷ b ∷ []) long = absurd (omega arith)
+tallied_four (a ∷ b ∷ d ∷ []) long = absurd (omega arith)
+tallied_four (a ∷ b ∷ d ∷ e ∷ []) long = refl
+tallied_four (a ∷ b ∷ d ∷ e ∷ f ∷ fs) long = absurd (omega arith)
+
+tallied_two : (fs : List Figure) → length fs ≡ 2 → ((tallied no_fields fs).last.lower ≡ said_at fs 0) × ((tallied no_fields fs).last.upper ≡ said_at fs 1)
+unfolding tallied
+tallied_two [] long = absurd (omega arith)
+tallied_two (a ∷ []) long = absurd (omega arith)
+tallied_two (a ∷ b ∷ []) long = (refl, refl)
+tallied_two (a ∷ b ∷ d ∷ fs) long = absurd (omega arith)
+
+-- ---- a record that was read
+fields_are : (x : Record) (w : ℕ) → record_fault w x ≡ 0 → length x.fields ≡ w
+unfolding record_fault
+fields_are x w none =
+    let second = (none_of_or_else (fault 17 (not x.whole)) (fault 18 (not (eqb (length x.fields) w) || bad_fields 0 x.fields)) none).1 in
+    let wrong = none_of_or (not (eqb (length x.fields) w)) (bad_fields 0 x.fields) (fault_none 18 _ (lit< tt) second) in
+    eqb-true (length x.fields) w (not-false _ wrong.0)
+
+module _ (x : Record) (text : List ℕ) (r : Read) (read : ReadOf x text r) where
+  pub read_fault : (w : ℕ) → fault_of w r ≡ record_fault w x
+  unfolding record_fault
+  read_fault w =
+      let count : r.tally.count ≡ length x.fields = ap (λ (t : Tally). t.count) read.tally ∙ tallied_count no_fields x.fields ∙ omega arith in
+      let bad : r.tally.bad ≡ bad_fields 0 x.fields =
+      ap (λ (t : Tally). t.bad) read.tally ∙ tallied_bad no_fields x.fields ∙ or_none (bad_fields 0 x.fields)
+      in
+      rw (read.whole, count, bad)
+
+  pub read_row : record_fault 4 x ≡ 0 → r.tally.last ≡ row_of x.fields
+  read_row none = ap (λ (t : Tally). t.last) read.tally ∙ tallied_four x.fields (fields_are x 4 none)
+
+  pub read_head : record_fault 2 x ≡ 0 → (r.tally.last.lower ≡ said_at x.fields 0) × (r.tally.last.upper ≡ said_at x.fields 1)
+  read_head none =
+      let both = tallied_two x.fields (fields_are x 2 none) in
+      (ap (λ (t : Tally). t.last.lower) read.tally ∙ both.0, ap (λ (t : Tally). t.last.upper) read.tally ∙ both.1)
+
+-- ---- the loop over the fields
+-- the record from `at` with the fields tallied so far is the record from `from`
+pub record Counting (text : List ℕ) (from at : ℕ) (t : Tally) : Type 0 where
+  pub inside : at ≤ length text
+  pub few : t.count ≤ at
+  pub whole : (record_of (drop at text)).whole ≡ (record_of (drop from text)).whole
+  pub tally : tallied t (record_of (drop at text)).fields ≡ tallied no_fields (record_of (drop from text)).fields
+  pub rest : (record_of (drop at text)).rest ≡ (record_of (drop from text)).rest
+
+pub counting_start : {text : List ℕ} {from : ℕ} {t : Tally} → from ≤ length text → t ≡ no_fields → Counting text from from t
+counting_start {text = text} {from = from} inside is =
+    record {
+      inside = inside;
+      few = omega (arith, ap (λ (x : Tally). x.count) is);
+      whole = refl;
+      tally = ap (λ (x : Tally). tallied x (record_of (drop from text)).fields) is;
+      rest = refl;
+    }
+
+module _ {text : List ℕ} {from at : ℕ} {t : Tally} {p : Part} (so_far : Counting text from at t) (found : PartOf (field (drop at text)) text p) where
+  -- behind a comma the place is further on
+  pub further : p.ending ≡ Comma → at < p.next
+  further ends =
+      let less = (field_shorter (drop at text)).comma (sym found.ending ∙ ends) in
+      let inside = so_far.inside in
+      omega (arith, length-drop at text, length-drop p.next text, ap length found.rest)
+
+  pub counting_more : {t' : Tally} → p.ending ≡ Comma → t' ≡ added t p.figure → Counting text from p.next t'
+  counting_more ends more =
+      let here = record_comma (drop at text) (sym found.ending ∙ ends) in
+      let on : record_of (field (drop at text)).rest ≡ record_of (drop p.next text) = ap record_of (sym found.rest) in
+      let fields : tallied t (record_of (drop at text)).fields ≡ tallied (added t p.figure) (record_of (drop p.next text)).fields =
+      ap (λ (r : Record). tallied t r.fields) here ∙ tallied_more t (field (drop at text)).figure (record_of (field (drop at text)).rest).fields
+      ∙ ap (λ (f : Figure). tallied (added t f) (record_of (field (drop at text)).rest).fields) (sym found.figure)
+      ∙ ap (λ (r : Record). tallied (added t p.figure) r.fields) on
+      in
+      record {
+        inside = found.inside;
+        few = omega (arith, ap (λ (x : Tally). x.count) more, so_far.few, further ends);
+        whole = sym (ap (λ (r : Record). r.whole) on) ∙ sym (ap (λ (r : Record). r.whole) here) ∙ so_far.whole;
+        tally = ap (λ (x : Tally). tallied x (record_of (drop p.next text)).fields) more ∙ sym fields ∙ so_far.tally;
+        rest = sym (ap (λ (r : Record). r.rest) on) ∙ sym (ap (λ (r : Record). r.rest) here) ∙ so_far.rest;
+      }
+
+  pub counting_line : {t' : Tally} → p.ending ≡ Line → t' ≡ added t p.figure
+      → ReadOf (record_of (drop from text)) text (record { whole = true; tally = t'; next = p.next })
+  counting_line ends more =
+      let here = record_line (drop at text) (sym found.ending ∙ ends) in
+      record {
+        whole = sym (ap (λ (r : Record). r.whole) here) ∙ so_far.whole;
+        tally =
+            more ∙ ap (added t) found.figure ∙ sym (tallied_none (added t (field (drop at text)).figure))
+            ∙ sym (tallied_more t (field (drop at text)).figure []) ∙ sym (ap (λ (r : Record). tallied t r.fields) here) ∙ so_far.tally;
+        rest = found.rest ∙ sym (ap (λ (r : Record). r.rest) here) ∙ so_far.rest;
+        inside = found.inside;
+      }
+
+  pub counting_broken : p.ending ≡ Broken → ReadOf (record_of (drop from text)) text (record { whole = false; tally = t; next = p.next })
+  counting_broken ends =
+      let here = record_broken (drop at text) (sym found.ending ∙ ends) in
+      record {
+        whole = sym (ap (λ (r : Record). r.whole) here) ∙ so_far.whole;
+        tally = sym (tallied_none t) ∙ sym (ap (λ (r : Record). tallied t r.fields) here) ∙ so_far.tally;
+        rest = found.rest ∙ sym (ap (λ (r : Record). r.rest) here) ∙ so_far.rest;
+        inside = found.inside;
+      }
+
+-- ---- bad_field
+pub bad_field_empty : (i : ℕ) (f : Figure) → f.count ≡ 0 → not (eqb i 3) ≡ bad_field i f
+bad_field_empty i f empty = rw (lt-leb 1 f.count (omega arith), eq-eqb f.count 0 empty) (aux (eqb i 3))
+  where
+    aux : (t : Bool) → not t ≡ not (t && true)
+    aux true = refl
+    aux false = refl
+
+pub bad_field_full : (i : ℕ) (f : Figure) → (f.count ≡ 0 → ⊥) → ltb 5 f.count ≡ bad_field i f
+bad_field_full i f some =
+    rw (le-leb 1 f.count (omega arith), ne_eqb f.count 0 some)
+    (dite (dec_le f.count 5)
+    (λ few. simp (le-leb f.count 5 few, le-ltb 5 f.count few))
+    (λ many. simp (lt-leb f.count 5 (omega arith), lt-ltb 5 f.count (omega arith)) (aux (eqb i 3))))
+  where
+    aux : (t : Bool) → true ≡ not (t && false)
+    aux true = refl
+    aux false = refl
