@@ -1,9 +1,10 @@
 // What an entry answers. `word_of` of specs/Answer.antt gives the number of each case.
 #![tactic(auto)]
+
 ghost use Rattle.std.specs.Prelude.{◌≡◌};
 ghost use Rattle.answer.specs.Answer.{word_of};
 
-#[derive(Drop)]
+#[derive(Clone, Copy)]
 pub enum Answer {
     Live,
     Dead,

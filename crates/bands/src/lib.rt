@@ -1,6 +1,7 @@
 // The rules across the values at eight prefixes side by side, by sums over the values that are held in scalars. Nothing is refused here; where a sum
 // is on the wrong side of its prefix, or does not fit in 16 bits, the answer is that this way does not fit. The contracts cite `specs/Band.antt`.
 #![tactic(auto)]
+
 ghost use Rattle.std.specs.Prelude.{◌≡◌, ◌+◌, ◌-◌, ◌≤◌, ◌<◌, length};
 ghost use Rattle.closing_model.specs.Table.{view, size};
 ghost use Rattle.closing_model.specs.Sweep.{Did};
@@ -11,7 +12,7 @@ use lanes::{Eight, any, less, load, numbers, same, store, sum};
 use stores::less16;
 
 // What a run of the rules did: nothing, or stored something; or that the sums do not fit this way, and nothing was done.
-#[derive(Drop)]
+#[derive(Clone, Copy)]
 pub enum Banded {
     Same,
     Changed,

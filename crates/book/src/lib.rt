@@ -1,6 +1,7 @@
 // Order books: where the parts of one stand among its bytes, and what a reader answers.
 // The contracts cite `specs/Layout.antt` in the module layout, `specs/Refusal.antt` here.
 #![tactic(auto)]
+
 mod layout; // layout.rt: the numbers, masks and rows at their places
 
 ghost use Rattle.std.specs.Prelude.{◌≡◌};
@@ -9,7 +10,7 @@ ghost use Rattle.book.specs.Refusal.{number_of, ◌or_else◌};
 pub use layout::{byte, idle, mask_at, read16, row_at, row_count, rows, slots, values};
 
 // The largest book that a reader takes.
-#[derive(Drop)]
+#[derive(Clone, Copy)]
 pub struct Limits {
     pub slots: usize,
     pub values: usize,
@@ -17,7 +18,7 @@ pub struct Limits {
 }
 
 // One row: value stands at least lower and at most upper times among the first end slots.
-#[derive(Drop)]
+#[derive(Clone, Copy)]
 pub struct Row {
     pub value: usize,
     pub reserved: usize,
@@ -27,7 +28,7 @@ pub struct Row {
 }
 
 // What a reader answers. `number_of` of specs/Refusal.antt gives document 01's number of each case.
-#[derive(Drop)]
+#[derive(Clone, Copy)]
 pub enum Verdict {
     Good,
     TooShort,

@@ -10,7 +10,7 @@ use lib.Pow.{pow_mono}
 use lib.ListN.{length, get_or}
 use Rattle.book.specs.declared.Limits.{Limits}
 use Rattle.book.specs.declared.Row.{Row}
-use Rattle.book.specs.Layout.{slots, row_count, mask_at, rows_part, row_at, masks, rows}
+use Rattle.book.specs.Layout.{slots, row_count, mask_at, rows_part, row_at}
 use Rattle.book.specs.Lists.{All}
 use Rattle.book.specs.Refusal.{GoodBook}
 use Rattle.book.specs.GoodFacts.{HeaderFacts, MaskFacts, RowFacts}

@@ -1,6 +1,7 @@
 // The parts of a book, written. Nothing is refused: each function requires just the room that it writes to.
 // The contracts cite book_bytes' `specs/BookBytes.antt`.
 #![tactic(auto)]
+
 ghost use Rattle.std.specs.Prelude.{◌≡◌, ◌+◌, ◌*◌, ◌-◌, ◌^◌, ◌<◌, ◌≤◌, length, replicate};
 ghost use Rattle.std.proofs.lemmas.List.Edits.{sets};
 ghost use Rattle.elements.specs.Elements.{bytes_of};

@@ -1,6 +1,7 @@
 // The tests of a book's header: the conditions of document 01's numbers 1 to 4, in its order.
 // The contracts cite book's `specs/Refusal.antt`.
 #![tactic(auto)]
+
 ghost use Rattle.std.specs.Prelude.{◌≡◌, ◌≤◌, length};
 ghost use Rattle.book.specs.Refusal as Refusal;
 ghost use Rattle.book.specs.Refusal.{out_of_range, header_fault, number_of};

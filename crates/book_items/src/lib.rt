@@ -1,6 +1,7 @@
 // The tests of one mask and of one row: the conditions of document 01's numbers 5 and 6 to 8.
 // The contracts cite book's `specs/Refusal.antt`.
 #![tactic(auto)]
+
 ghost use Rattle.std.specs.Prelude.{◌≡◌, eqb};
 ghost use Rattle.book.specs.Refusal.{mask_fault, row_fault, number_of};
 

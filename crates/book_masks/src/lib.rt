@@ -1,5 +1,6 @@
 // The masks of a book in a lent slice, and masks with no value.
 #![tactic(auto)]
+
 ghost use Rattle.std.specs.Prelude.{◌≡◌, ◌+◌, ◌*◌, ◌≤◌, length, replicate};
 ghost use Rattle.book.specs.Layout.{list_of, mask_at};
 

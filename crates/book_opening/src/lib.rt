@@ -1,5 +1,6 @@
 // From a good book to the filter's state. Nothing is refused here. The contract cites `specs/State.antt`.
 #![tactic(auto)]
+
 ghost use Rattle.book_opening.specs.State.{StateRoom, OpensBook};
 
 use book::{slots, values};

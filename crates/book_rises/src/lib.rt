@@ -1,6 +1,7 @@
 // The rises of a book's closed table. The table itself stands only in arrays of these functions.
 // The contracts cite `specs/BookRises.antt`.
 #![tactic(auto)]
+
 ghost use Rattle.book_rises.specs.BookRises.{NotesRises, RisesRoom, TableRoom};
 
 use answer::word;

@@ -2,6 +2,7 @@
 // until a sweep changes nothing or finds a crossed entry. No other array is used. The contract cites specs/Answer.antt, `Fits` of column_rules'
 // specs/Answer.antt and the model `closing` of closing_model's specs/Closing.antt.
 #![tactic(auto)]
+
 ghost use Rattle.std.specs.Prelude.{◌≡◌};
 ghost use Rattle.closing_model.specs.Closing.{closing};
 ghost use Rattle.column_rules.specs.Answer.{Fits};

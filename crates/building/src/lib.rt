@@ -3,6 +3,7 @@
 // `lower` is the kind: true for the lower bound. A broken corner is answered; nothing is refused here. The contracts cite `specs/Built.antt` and the
 // definitions of segments_model.
 #![tactic(auto)]
+
 ghost use Rattle.std.specs.Prelude.{◌≡◌, cond, ◌+◌, ◌-◌, ◌<◌, ◌≤◌, length};
 ghost use Rattle.segments_model.specs.Build.{Counts};
 ghost use Rattle.segments_model.specs.Part.{Lent};

@@ -2,6 +2,7 @@
 // written only where the book is live, its rows are few enough and out has room for them. The contracts cite `specs/Archive.antt`, canonical_model's
 // `specs/Canonical.antt`, and that of the entry entries_model's `specs/Entries.antt`.
 #![tactic(auto)]
+
 ghost use Rattle.std.specs.Prelude.{◌≡◌, length};
 ghost use Rattle.std.proofs.Math.Option.{some};
 ghost use Rattle.std.proofs.lemmas.List.Edits.{sets};

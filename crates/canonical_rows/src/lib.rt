@@ -2,6 +2,7 @@
 // then end. Nothing is refused: each function requires just the entries that it reads and the room that it writes to. The contracts cite canonical_model's
 // `specs/CornerRows.antt` and `specs/Lines.antt`.
 #![tactic(auto)]
+
 mod counting; // counting.rt: how many rows there are
 mod turns; // turns.rt: whether a line turns
 mod writing; // writing.rt: the rows, written

@@ -1,5 +1,6 @@
 // Checking from bytes to a word, at document 01's limits. The contract cites entries_model's `specs/Entries.antt`.
 #![tactic(auto)]
+
 ghost use Rattle.std.specs.Prelude.{◌≡◌};
 ghost use Rattle.entries_model.specs.Entries.{check_answer};
 

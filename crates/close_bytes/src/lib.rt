@@ -1,5 +1,6 @@
 // Closing from bytes to bytes, at document 01's limits. The contract cites entries_model's `specs/Entries.antt`.
 #![tactic(auto)]
+
 ghost use Rattle.entries_model.specs.Entries.{CloseEntry};
 
 use answer::{Answer, word};

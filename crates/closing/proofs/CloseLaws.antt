@@ -13,7 +13,7 @@ use lib.ListN.{length, drop, replicate}
 use borrow.Author.Tests.{lt-ltb, le-ltb, ltb-false}
 use Rattle.book.specs.declared.Limits.{Limits}
 use Rattle.book.specs.Layout.{slots, values, rows}
-use Rattle.book.specs.Refusal.{◌or_else◌, refusal}
+use Rattle.book.specs.Refusal.{refusal}
 use Rattle.book.specs.GoodFacts.{GoodFacts}
 use Rattle.book.proofs.RefusalLaws.{fault_none, none_of_or, or_else_none, or_else_some, none_of_or_else}
 use Rattle.book.proofs.BookLaws.{good_facts}

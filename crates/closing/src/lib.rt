@@ -3,6 +3,7 @@
 // The contracts cite `specs/Close.antt` and `entries` of closing_model's `specs/Start.antt`; that of `close_exactly` cites `specs/Wrote.antt` and
 // starting's `specs/Ready.antt`.
 #![tactic(auto)]
+
 ghost use Rattle.std.specs.Prelude.{◌≡◌, ◌≤◌, length};
 ghost use Rattle.answer.specs.Answer.{word_of};
 ghost use Rattle.closing_model.specs.Start.{entries};

@@ -1,6 +1,7 @@
 // The rules across the values at one prefix, and at some prefixes one after the other, by sums over the values that are held in scalars. Nothing is refused here.
 // The contracts cite specs/Answer.antt, and `SumsAre` and `Across` of closing_model's specs/Sweep.antt.
 #![tactic(auto)]
+
 ghost use Rattle.std.specs.Prelude.{◌+◌, ◌≤◌};
 ghost use Rattle.closing_model.specs.Table.{view, size};
 ghost use Rattle.closing_model.specs.Sweep.{SumsAre, Across};
@@ -9,7 +10,7 @@ ghost use Rattle.column_rules.specs.Answer.{SumsMatch, Outcome, Fits, Between};
 use stores::{at, greater, less, narrow};
 
 // What a run of the rules did: nothing, stored something, or found that no closed table lies within.
-#[derive(Drop)]
+#[derive(Clone, Copy)]
 pub enum Sweep {
     Same,
     Changed,
@@ -17,7 +18,7 @@ pub enum Sweep {
 }
 
 // What the entries at one prefix come to: the sum of the lowers, that of the uppers, and the widest gap from a lower to its upper.
-#[derive(Drop)]
+#[derive(Clone, Copy)]
 pub struct Sums {
     lowers: usize,
     uppers: usize,

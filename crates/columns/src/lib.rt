@@ -1,6 +1,7 @@
 // The rules across the values at every prefix: at eight prefixes at once where their sums fit, else at one after the other. Nothing is refused here.
 // The contracts cite column_rules' specs/Answer.antt, and `Columns` of closing_model's specs/Sweep.antt.
 #![tactic(auto)]
+
 ghost use Rattle.std.specs.Prelude.{◌+◌, ◌≤◌};
 ghost use Rattle.closing_model.specs.Table.{size};
 ghost use Rattle.closing_model.specs.Sweep.{Columns};

@@ -2,6 +2,7 @@
 // many of the slots before it count for the kind. `lower` is the kind: true for the lower bound. Nothing is refused here. The contracts cite
 // `specs/Turn.antt` and the definitions of segments_model.
 #![tactic(auto)]
+
 ghost use Rattle.std.specs.Prelude.{◌≡◌, ◌^◌, ◌<◌, ◌≤◌, eqb, length, get_or};
 ghost use Rattle.domains.specs.Mask.{test_bit};
 ghost use Rattle.domains.specs.Counts.{bit};
@@ -9,7 +10,7 @@ ghost use Rattle.segments_model.specs.Build.{Counts};
 ghost use Rattle.segments_model.specs.Lines.{line_of, corner_of, tick};
 ghost use Rattle.corners.specs.Turn.{PreviousTurn, PreviousCorner};
 
-#[derive(Drop)]
+#[derive(Clone, Copy)]
 pub struct Totals {
     // the line at a prefix
     pub risen: u32,

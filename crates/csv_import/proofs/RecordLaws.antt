@@ -5,14 +5,14 @@ use mathlib.Core.Path.{◌≡◌, refl, sym, ap, ◌∙◌}
 use mathlib.Core.Logic.{dite}
 use mathlib.Core.Bool.{Bool, true, false, not, ◌&&◌, ◌||◌}
 use mathlib.Core.List.{List, [], ◌∷◌}
-use Prim.Native.Nat.{ℕ, suc, ◌+◌, ◌-◌, ◌≤◌, ◌<◌}
+use Prim.Native.Nat.{ℕ, suc, ◌+◌, ◌≤◌, ◌<◌}
 use native.Mathlib.Numerals.{add-one}
 use native.Mathlib.Omega.{arith}
 use native.Mathlib.Decide.{dec_le}
 use lib.Dec.{eqb, ltb, lit<}
 use lib.ListN.{length, drop, length-drop}
 use borrow.Author.Tests.{eqb-true, not-false, eq-eqb, ne_eqb, le-leb, lt-leb, le-ltb, lt-ltb}
-use Rattle.book.specs.Refusal.{fault, ◌or_else◌}
+use Rattle.book.specs.Refusal.{fault}
 use Rattle.book.proofs.RefusalLaws.{none_of_or, none_of_or_else, fault_none}
 use Rattle.csv_model.specs.declared.Figure.{Figure}
 use Rattle.csv_model.specs.declared.Ending.TheVariants.{Comma, Line, Broken}

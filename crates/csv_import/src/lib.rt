@@ -1,6 +1,7 @@
 // Orders that arrive as CSV (document 02, request one): a text in, a good book out. Every text of every length gets an answer, and the lent book is
 // written only where no number refuses the text. The contracts cite csv_model's `specs/`, and the entry's entries_model's `specs/Entries.antt`.
 #![tactic(auto)]
+
 mod fields; // fields.rt: one field
 mod importing; // importing.rt: a whole text
 mod passes; // passes.rt: the later records
@@ -24,7 +25,7 @@ const ROWS: usize = 1024;
 const DIGITS_MOST: usize = 5;
 
 // A field that was found: its figure, how it ends, and the place behind it.
-#[derive(Drop)]
+#[derive(Clone, Copy)]
 pub struct Part {
     pub figure: Figure,
     pub ending: Ending,
@@ -32,7 +33,7 @@ pub struct Part {
 }
 
 // The fields of a record so far.
-#[derive(Drop)]
+#[derive(Clone, Copy)]
 pub struct Tally {
     pub count: usize,
     // one of them is no number, at its place
@@ -42,7 +43,7 @@ pub struct Tally {
 }
 
 // A record that was read: whether RFC 4180 is kept, its fields, and the place behind it.
-#[derive(Drop)]
+#[derive(Clone, Copy)]
 pub struct Read {
     pub whole: bool,
     pub tally: Tally,
@@ -50,7 +51,7 @@ pub struct Read {
 }
 
 // What the first pass finds: the first number 17 or 18, or else how many records there are, and the first number 6, 7 or 8 of their rows.
-#[derive(Drop)]
+#[derive(Clone, Copy)]
 pub struct Later {
     pub number: u8,
     pub rows: usize,
@@ -58,7 +59,7 @@ pub struct Later {
 }
 
 // What a text orders: the first number 17 or 18, or else its numbers, the first number 6, 7 or 8 of its rows, and the place of the first row.
-#[derive(Drop)]
+#[derive(Clone, Copy)]
 pub struct Orders {
     pub number: u8,
     pub slots: usize,

@@ -3,7 +3,7 @@
 --   Sorted w s    the records of s are good; or good ones lead to text that begins with no record; or to a record that is not good (`sorted`)
 -- Assumes nothing.
 use mathlib.Core.Path.{◌≡◌, refl, sym, ap, subst, ◌∙◌}
-use mathlib.Core.Logic.{◌⊎◌, inl, inr, ⊎_elim, dite}
+use mathlib.Core.Logic.{inl, inr, ⊎_elim, dite}
 use mathlib.Core.Bool.{Bool, true, false, not, ◌&&◌, ◌||◌, cond}
 use mathlib.Core.List.{List, [], ◌∷◌}
 use Prim.Native.Nat.{ℕ, zero, suc, ◌+◌, ◌*◌, ◌≤◌, ◌<◌}

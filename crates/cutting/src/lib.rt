@@ -1,6 +1,7 @@
 // The parts of a decision: the slot cut by an assign or a remove, with all that follows, and what that struck. The contracts cite filter's
 // `specs/Filtered.antt`, `CutOf`, `Strikes` and `OnesLost` of acts, and `news` of session_model.
 #![tactic(auto)]
+
 ghost use Rattle.std.specs.Prelude.{◌≡◌, ◌+◌, ◌*◌, ◌≤◌, ◌<◌, length};
 ghost use Rattle.filter_model.specs.State.{Ready};
 ghost use Rattle.filter_model.specs.Trail.{value_at};

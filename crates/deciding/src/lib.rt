@@ -1,6 +1,7 @@
 // What a decision does to a session on the segment engine, where no number refuses it: an assign or a remove, with all that follows. The contract
 // says that it is what the plain machine does: `Acts` of acts' `specs/Answers.antt`.
 #![tactic(auto)]
+
 ghost use Rattle.session_model.specs.Calls as Calls;
 ghost use Rattle.acts.specs.Given.{decision_of};
 ghost use Rattle.acts.specs.Answers.{Acts, Deciding};

@@ -1,6 +1,7 @@
 // The fall of one row of cells, told by its reach and by what takes it back. Nothing is refused here. The contracts cite `specs/Told.antt` and the
 // definitions of filter_model.
 #![tactic(auto)]
+
 ghost use Rattle.std.specs.Prelude.{◌≡◌, cond, ◌+◌, ◌*◌, ◌-◌, ◌<◌, ◌≤◌, ltb, length, get_or};
 ghost use Rattle.segments_model.specs.Part.{Lent};
 ghost use Rattle.filter_model.specs.Strike.{Dropped};
@@ -8,7 +9,7 @@ ghost use Rattle.descents.specs.Told.{Told};
 
 // A row's fall: that it cannot be; the end before which all must be settled, or 0; and the tag and the note by which the fall is taken back. Where
 // there is such an end, the note is the one before which all was to be settled already.
-#[derive(Drop)]
+#[derive(Clone, Copy)]
 pub struct Descent {
     pub clash: bool,
     pub reach: usize,

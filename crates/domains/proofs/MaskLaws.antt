@@ -5,7 +5,7 @@
 -- Assumes nothing.
 use mathlib.Core.Path.{◌≡◌, refl, sym, ap, ◌∙◌}
 use mathlib.Core.Logic.{dite}
-use Prim.Native.Nat.{ℕ, zero, suc, ◌+◌, ◌-◌, ◌*◌, ◌/◌, ◌%◌, ◌^◌, ◌≤◌, ◌<◌, zero-le, suc-le-suc}
+use Prim.Native.Nat.{ℕ, zero, suc, ◌+◌, ◌*◌, ◌/◌, ◌%◌, ◌^◌, ◌≤◌, ◌<◌, zero-le, suc-le-suc}
 use native.Mathlib.Nat.{le_refl, le_trans, le_antisymm, le_of_eq, lt_of_lt_of_le, zero-add, one-mul, mul_assoc, mul-le-mul_right, pow-suc}
 use native.Mathlib.Nat.{zero-div, div-one, div_self, div-mul-le_self, div-eq_of_lt, add-div_right, mod-le, mod-eq_of_lt}
 use native.Mathlib.Numerals.{one-add}

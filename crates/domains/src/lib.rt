@@ -1,6 +1,7 @@
 // One slot's mask as a `u32`: bit v says that value v may go in that slot. A mask is never refused here: every `u32` is one.
 // The contracts cite `specs/Mask.antt`; `specs/Masks.antt` has what the layers above say of lists of masks.
 #![tactic(auto)]
+
 ghost use Rattle.std.specs.Prelude.{◌≡◌, ◌+◌, ◌<◌, ◌^◌, eqb, ltb};
 ghost use Rattle.std.specs.Int.Count.{ones};
 ghost use Rattle.domains.specs.Mask.{test_bit, clear_bit, Fixed, Lowest};

@@ -12,7 +12,7 @@ use crate::bytes::{put, put_call, put_grid, put_header, put_masks, put_row, put1
 use crate::scan::{argument, begins_word, is_word};
 
 // What a line has made so far, beside the bytes.
-#[derive(Drop)]
+#[derive(Clone, Copy)]
 pub struct Case {
     // n of the book
     pub slots: u16,

@@ -2,6 +2,7 @@
 // printing of what an entry wrote. The contracts say nothing, so it is proved to be safe and to end, and no more. Nothing is refused: what does not fit
 // an array is left out.
 #![tactic(auto)]
+
 mod bytes; // bytes.rt: books and call lists as bytes
 mod cases; // cases.rt: words that make the book and the call list of a line
 mod outputs; // outputs.rt: an entry's outputs before it runs

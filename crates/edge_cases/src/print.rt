@@ -6,132 +6,148 @@
 //   equal x                               how many masks are x
 //   tally x                               how many words are x
 use crate::scan::{argument, following, is_word, word_end};
-use libc::STDOUT_FILENO;
+use std::io;
+use std::io::Write;
 
 // Carries out the word at at, if it is one of the first four.
 pub fn show_elements(
+    out: &mut impl Write,
     line: &[u8],
     at: usize,
     lowers: &[u16],
     uppers: &[u16],
     words: &[u32],
     masks: &[u32],
-) {
+) -> io::Result<()> {
     let i = argument(line, at, 1);
     let j = argument(line, at, 2);
     if is_word(line, at, b'l', b'w') {
-        show_word(line, at);
-        show_table(lowers, i, j);
+        show_word(out, line, at)?;
+        show_table(out, lowers, i, j)?;
     }
     if is_word(line, at, b'u', b'p') {
-        show_word(line, at);
-        show_table(uppers, i, j);
+        show_word(out, line, at)?;
+        show_table(out, uppers, i, j)?;
     }
     if is_word(line, at, b'm', b's') {
-        show_word(line, at);
-        show_masks(masks, i, j);
+        show_word(out, line, at)?;
+        show_masks(out, masks, i, j)?;
     }
     if is_word(line, at, b'w', b'r') {
-        show_word(line, at);
-        show_calls(words, i, j);
+        show_word(out, line, at)?;
+        show_calls(out, words, i, j)?;
     }
+    Ok(())
 }
 
 // Carries out the word at at, if it is one of the last four.
 pub fn show_counts(
+    out: &mut impl Write,
     line: &[u8],
     at: usize,
     lowers: &[u16],
     uppers: &[u16],
     words: &[u32],
     masks: &[u32],
-) {
+) -> io::Result<()> {
     if is_word(line, at, b't', b't') {
-        show_word(line, at);
-        show(sum(lowers));
-        show(sum(uppers));
+        show_word(out, line, at)?;
+        show(out, sum(lowers))?;
+        show(out, sum(uppers))?;
     }
     if is_word(line, at, b'k', b'p') {
-        show_word(line, at);
-        show(count_unwritten(lowers));
-        show(count_unwritten(uppers));
-        show(count(words, 9999));
-        show(count(masks, 9999));
+        show_word(out, line, at)?;
+        show_kept(out, lowers, uppers, words, masks)?;
     }
     if is_word(line, at, b'e', b'u') {
-        show_word(line, at);
-        show(count(masks, argument(line, at, 1)));
+        show_word(out, line, at)?;
+        show(out, count(masks, argument(line, at, 1)))?;
     }
     if is_word(line, at, b't', b'l') {
-        show_word(line, at);
-        show(count(words, argument(line, at, 1)));
+        show_word(out, line, at)?;
+        show(out, count(words, argument(line, at, 1)))?;
     }
+    Ok(())
+}
+
+// How many lowers, uppers, words and masks were not written.
+fn show_kept(
+    out: &mut impl Write,
+    lowers: &[u16],
+    uppers: &[u16],
+    words: &[u32],
+    masks: &[u32],
+) -> io::Result<()> {
+    show(out, count_unwritten(lowers))?;
+    show(out, count_unwritten(uppers))?;
+    show(out, count(words, 9999))?;
+    show(out, count(masks, 9999))
 }
 
 // The line up to its colon, with it.
-pub fn show_name(line: &[u8], colon: usize) {
+pub fn show_name(out: &mut impl Write, line: &[u8], colon: usize) -> io::Result<()> {
     if colon < line.len() {
-        io::write_all(STDOUT_FILENO, &line[..colon + 1]);
+        out.write_all(&line[..colon + 1])?;
     }
+    Ok(())
 }
 
 // A space and the word at at.
-pub fn show_word(line: &[u8], at: usize) {
-    io::write_all(STDOUT_FILENO, b" ");
+pub fn show_word(out: &mut impl Write, line: &[u8], at: usize) -> io::Result<()> {
+    out.write_all(b" ")?;
     let end = word_end(line, at);
-    if line.len() < end {
-        return;
+    if line.len() < end || end < at {
+        return Ok(());
     }
-    if end < at {
-        return;
-    }
-    io::write_all(STDOUT_FILENO, &line[at..end]);
+    out.write_all(&line[at..end])
 }
 
 // A space and a number, or - for what was not written.
-pub fn show(x: u32) {
-    io::write_all(STDOUT_FILENO, b" ");
-    show_bare(x);
+pub fn show(out: &mut impl Write, x: u32) -> io::Result<()> {
+    out.write_all(b" ")?;
+    show_bare(out, x)
 }
 
-fn show_bare(x: u32) {
+fn show_bare(out: &mut impl Write, x: u32) -> io::Result<()> {
     if x == 9999 {
-        io::write_all(STDOUT_FILENO, b"-");
-        return;
+        return out.write_all(b"-");
     }
-    io::print_decimal(STDOUT_FILENO, x as u64);
+    write!(out, "{x}")
 }
 
-pub fn end_line() {
-    io::write_all(STDOUT_FILENO, b"\n");
+pub fn end_line(out: &mut impl Write) -> io::Result<()> {
+    out.write_all(b"\n")
 }
 
-fn show_table(a: &[u16], from: u32, to: u32) {
+fn show_table(out: &mut impl Write, a: &[u16], from: u32, to: u32) -> io::Result<()> {
     for i in from..to {
-        show(bound(a, i as usize));
+        show(out, bound(a, i as usize))?;
     }
+    Ok(())
 }
 
-fn show_masks(a: &[u32], from: u32, to: u32) {
+fn show_masks(out: &mut impl Write, a: &[u32], from: u32, to: u32) -> io::Result<()> {
     for i in from..to {
-        show(word(a, i as usize));
+        show(out, word(a, i as usize))?;
     }
+    Ok(())
 }
 
-fn show_calls(words: &[u32], from: u32, to: u32) {
+fn show_calls(out: &mut impl Write, words: &[u32], from: u32, to: u32) -> io::Result<()> {
     for i in from..to {
-        show_call(words, 2 * i as usize);
+        show_call(out, words, 2 * i as usize)?;
     }
+    Ok(())
 }
 
 // The words at i and after it.
-fn show_call(words: &[u32], i: usize) {
-    io::write_all(STDOUT_FILENO, b" (");
-    show_bare(word(words, i));
+fn show_call(out: &mut impl Write, words: &[u32], i: usize) -> io::Result<()> {
+    out.write_all(b" (")?;
+    show_bare(out, word(words, i))?;
     if i < words.len() {
-        show(word(words, i + 1));
+        show(out, word(words, i + 1))?;
     }
-    io::write_all(STDOUT_FILENO, b")");
+    out.write_all(b")")
 }
 
 // Element i, or 0 where there is none.

@@ -13,14 +13,23 @@ use edge_cases::{
     argument, begins_word, clear, clear16, end_line, is_word, show, show_counts, show_elements,
     show_word,
 };
+use std::io;
+use std::io::Write;
 
 // Carries out each word of the line after from that runs an entry or prints what it wrote.
-pub fn run_answers(line: &[u8], from: usize, book: &[u8], calls: &[u8]) {
+pub fn run_answers(
+    out: &mut impl Write,
+    line: &[u8],
+    from: usize,
+    book: &[u8],
+    calls: &[u8],
+) -> io::Result<()> {
     let mut lowers = [9999u16; 8225];
     let mut uppers = [9999u16; 8225];
     let mut words = [9999u32; 8194];
     let mut masks = [9999u32; 257];
     run_words(
+        out,
         line,
         from,
         book,
@@ -29,12 +38,13 @@ pub fn run_answers(line: &[u8], from: usize, book: &[u8], calls: &[u8]) {
         &mut uppers,
         &mut words,
         &mut masks,
-    );
-    end_line();
+    )?;
+    end_line(out)
 }
 
 // The words of the line after from.
 fn run_words(
+    out: &mut impl Write,
     line: &[u8],
     from: usize,
     book: &[u8],
@@ -43,17 +53,18 @@ fn run_words(
     uppers: &mut [u16],
     words: &mut [u32],
     masks: &mut [u32],
-) {
+) -> io::Result<()> {
     for at in from..line.len() {
-        if !begins_word(line, at) {
-            continue;
+        if begins_word(line, at) {
+            run_word(out, line, at, book, calls, lowers, uppers, words, masks)?;
         }
-        run_word(line, at, book, calls, lowers, uppers, words, masks);
     }
+    Ok(())
 }
 
 // The word at at.
 fn run_word(
+    out: &mut impl Write,
     line: &[u8],
     at: usize,
     book: &[u8],
@@ -62,93 +73,120 @@ fn run_word(
     uppers: &mut [u16],
     words: &mut [u32],
     masks: &mut [u32],
-) {
-    show_elements(line, at, lowers, uppers, words, masks);
-    show_counts(line, at, lowers, uppers, words, masks);
-    run_numbers(line, at, book, calls);
-    run_close(line, at, book, lowers, uppers);
-    run_settle(line, at, book, masks);
-    run_session(line, at, book, calls, words, masks);
+) -> io::Result<()> {
+    show_elements(out, line, at, lowers, uppers, words, masks)?;
+    show_counts(out, line, at, lowers, uppers, words, masks)?;
+    run_numbers(out, line, at, book, calls)?;
+    run_close(out, line, at, book, lowers, uppers)?;
+    run_settle(out, line, at, book, masks)?;
+    run_session(out, line, at, book, calls, words, masks)
 }
 
 // Runs close, if the word at at says so.
-fn run_close(line: &[u8], at: usize, book: &[u8], lowers: &mut [u16], uppers: &mut [u16]) {
+fn run_close(
+    out: &mut impl Write,
+    line: &[u8],
+    at: usize,
+    book: &[u8],
+    lowers: &mut [u16],
+    uppers: &mut [u16],
+) -> io::Result<()> {
     if !is_word(line, at, b'c', b'o') {
-        return;
+        return Ok(());
     }
-    show_word(line, at);
+    show_word(out, line, at)?;
     clear16(lowers);
     clear16(uppers);
     let a = argument(line, at, 1) as usize;
     let b = argument(line, at, 2) as usize;
     if lowers.len() < a || uppers.len() < b {
-        show(9999);
-        return;
+        return show(out, 9999);
     }
-    show(word(entries::close(book, &mut lowers[..a], &mut uppers[..b])));
+    show(
+        out,
+        word(entries::close(book, &mut lowers[..a], &mut uppers[..b])),
+    )
 }
 
 // Runs settle, if the word at at says so.
-fn run_settle(line: &[u8], at: usize, book: &[u8], masks: &mut [u32]) {
+fn run_settle(
+    out: &mut impl Write,
+    line: &[u8],
+    at: usize,
+    book: &[u8],
+    masks: &mut [u32],
+) -> io::Result<()> {
     if !is_word(line, at, b's', b't') {
-        return;
+        return Ok(());
     }
-    show_word(line, at);
+    show_word(out, line, at)?;
     clear(masks);
     let m = argument(line, at, 1) as usize;
     if masks.len() < m {
-        show(9999);
-        return;
+        return show(out, 9999);
     }
-    show(word(entries::settle(book, &mut masks[..m])));
+    show(out, word(entries::settle(book, &mut masks[..m])))
 }
 
 // Runs session, if the word at at says so.
 fn run_session(
+    out: &mut impl Write,
     line: &[u8],
     at: usize,
     book: &[u8],
     calls: &[u8],
     words: &mut [u32],
     masks: &mut [u32],
-) {
+) -> io::Result<()> {
     if !is_word(line, at, b's', b's') {
-        return;
+        return Ok(());
     }
-    show_word(line, at);
+    show_word(out, line, at)?;
     clear(words);
     clear(masks);
     let w = argument(line, at, 1) as usize;
     let m = argument(line, at, 2) as usize;
     if words.len() < w || masks.len() < m {
-        show(9999);
-        return;
+        return show(out, 9999);
     }
-    show(word(entries::session(book, calls, &mut words[..w], &mut masks[..m])));
+    show(
+        out,
+        word(entries::session(book, calls, &mut words[..w], &mut masks[..m])),
+    )
 }
 
 // Runs check, or all four, if the word at at says so.
-fn run_numbers(line: &[u8], at: usize, book: &[u8], calls: &[u8]) {
+fn run_numbers(
+    out: &mut impl Write,
+    line: &[u8],
+    at: usize,
+    book: &[u8],
+    calls: &[u8],
+) -> io::Result<()> {
     if is_word(line, at, b'c', b'e') {
-        show_word(line, at);
-        show(check_word(book));
+        show_word(out, line, at)?;
+        show(out, check_word(book))?;
     }
     if is_word(line, at, b'n', b'm') {
-        show_word(line, at);
-        show_numbers(book, calls);
+        show_word(out, line, at)?;
+        show_numbers(out, book, calls)?;
     }
+    Ok(())
 }
 
 // The answers of all four entries, lent one element for each output.
-fn show_numbers(book: &[u8], calls: &[u8]) {
+fn show_numbers(out: &mut impl Write, book: &[u8], calls: &[u8]) -> io::Result<()> {
     let mut lowers = [9999u16; 1];
     let mut uppers = [9999u16; 1];
     let mut words = [9999u32; 1];
     let mut masks = [9999u32; 1];
-    show(check_word(book));
-    show(word(entries::close(book, &mut lowers, &mut uppers)));
-    show(word(entries::settle(book, &mut masks)));
-    show(word(entries::session(book, calls, &mut words, &mut masks)));
+    show(out, check_word(book))?;
+    show(out, word(entries::close(book, &mut lowers, &mut uppers)))?;
+    show(out, word(entries::settle(book, &mut masks)))?;
+    show(
+        out,
+        word(entries::session(book, calls, &mut words, &mut masks)),
+    )
 }
 
 // Check's answer.

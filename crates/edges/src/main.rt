@@ -3,48 +3,60 @@
 // more than safety needs, and what does not fit an array is left out.
 // A line is a name and a colon, which are printed, and then words with numbers after them, parted by single spaces. A line that begins with # is none.
 #![tactic(auto)]
+
 mod answers; // answers.rt: words that run an entry and print its answer
 
 use answers::run_answers;
 use edge_cases::{begins_line, build, colon_at, line_at, show_name};
-use libc::STDIN_FILENO;
+use std::io;
+use std::io::{BufWriter, Read, Write};
 
-fn main() {
-    let mut text = [0u8; 32768];
-    let end = io::read_full(STDIN_FILENO, &mut text);
-    run_lines(&text[..end]);
+// The most bytes of the cases that are read.
+const TEXT_BYTES: u64 = 32_768;
+
+fn main(rt: HostRuntime) -> io::Result<()> {
+    let mut text = Vec::new(rt.alloc());
+    rt.reader().take(TEXT_BYTES).read_to_end(&mut text)?;
+    let mut out = BufWriter::new(rt.alloc(), io::writer(&rt))?;
+    run_lines(&mut out, &text)?;
+    out.flush()
 }
 
 // Runs each line.
-fn run_lines(text: &[u8]) {
+fn run_lines(out: &mut impl Write, text: &[u8]) -> io::Result<()> {
     for at in 0..text.len() {
-        if !begins_line(text, at) {
-            continue;
+        if begins_line(text, at) {
+            run_case(out, line_at(text, at))?;
         }
-        run_case(line_at(text, at));
     }
+    Ok(())
 }
 
 // Prints the name, makes book and calls, runs the entries.
-fn run_case(line: &[u8]) {
+fn run_case(out: &mut impl Write, line: &[u8]) -> io::Result<()> {
     let mut book = [0u8; 9236];
     let mut calls = [0u8; 16388];
     let colon = colon_at(line);
     if line.len() <= colon {
-        return;
+        return Ok(());
     }
-    show_name(line, colon);
+    show_name(out, line, colon)?;
     let case = build(line, colon, &mut book, &mut calls);
-    run_lent(line, colon, &book, &calls, case.length, case.listed);
+    run_lent(out, line, colon, &book, &calls, case.length, case.listed)
 }
 
 // Runs the entries, lent so many bytes of the book and of the calls.
-fn run_lent(line: &[u8], colon: usize, book: &[u8], calls: &[u8], length: usize, listed: usize) {
-    if book.len() < length {
-        return;
+fn run_lent(
+    out: &mut impl Write,
+    line: &[u8],
+    colon: usize,
+    book: &[u8],
+    calls: &[u8],
+    length: usize,
+    listed: usize,
+) -> io::Result<()> {
+    if book.len() < length || calls.len() < listed {
+        return Ok(());
     }
-    if calls.len() < listed {
-        return;
-    }
-    run_answers(line, colon, &book[..length], &calls[..listed]);
+    run_answers(out, line, colon, &book[..length], &calls[..listed])
 }

@@ -1,6 +1,7 @@
 // Elements as little-endian bytes, for the exported entries. Nothing is refused here: each function requires just the room that it writes to.
 // The contracts cite `specs/Elements.antt`.
 #![tactic(auto)]
+
 ghost use Rattle.std.specs.Prelude.{◌≡◌, ◌++◌, ◌+◌, ◌*◌, ◌≤◌, length, drop};
 ghost use Rattle.std.proofs.lemmas.List.Edits.{sets};
 ghost use Rattle.elements.specs.Elements.{digits, bytes_of};

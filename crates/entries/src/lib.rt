@@ -1,6 +1,7 @@
 // The entries at document 01's limits, typed, for callers written in Rattle. No entry has a premise: every slice of every length gets an
 // answer. The contracts cite the definitions of the entries with limits, at entries_model's `full_limits`.
 #![tactic(auto)]
+
 ghost use Rattle.std.specs.Prelude.{◌≡◌, length};
 ghost use Rattle.answer.specs.Answer.{word_of};
 ghost use Rattle.book.specs.Refusal.{refusal, number_of};

@@ -1,7 +1,7 @@
 -- The laws of `specs/Given.antt`: what rows give at a place is what a row there has, or nothing (`given_source`); it is inside each of theirs (`row_given`),
 -- and what is inside all of theirs is inside it (`inside_rows`). `start_given`: the starting table, entry by entry. No contract cites this file. Assumes
 -- nothing.
-use mathlib.Core.Path.{◌≡◌, refl, sym, ap₂, ◌∙◌}
+use mathlib.Core.Path.{◌≡◌, refl, sym, ap₂, ◌∙◌, subst⁻¹}
 use mathlib.Core.Bool.{Bool, true, false, cond, and-eq-true_iff}
 use mathlib.Core.Logic.{inl, inr, dite}
 use mathlib.Core.List.{List, [], ◌∷◌, ◌++◌}
@@ -112,7 +112,8 @@ module _ (kind : Bool) (v t : ℕ) where
   pub given_source : (rs : List Row) → (given_by kind rs v t ≡ unbound kind t → ⊥) → Gives (λ r. side_of kind r ≡ given_by kind rs v t) rs v t
   given_source [] bound = absurd (bound (given_none kind v t))
   given_source (r ∷ rs) bound =
-      rw (given_more kind r rs v t) (go (speaks r v t) refl (λ none. bound (given_more kind r rs v t ∙ none)) (given_source rs))
+      subst⁻¹ (λ (x : ℕ). Gives (λ q. side_of kind q ≡ x) (r ∷ rs) v t) (given_more kind r rs v t)
+      (go (speaks r v t) refl (λ none. bound (given_more kind r rs v t ∙ none)) (given_source rs))
     where
       g : ℕ
       g = given_by kind rs v t

@@ -1,5 +1,6 @@
 // Filling lent slices: with zeros, and with the prefix lengths of a table that has no rows. The contracts cite `specs/Fill.antt`.
 #![tactic(auto)]
+
 ghost use Rattle.std.specs.Prelude.{◌≡◌, ◌+◌, ◌%◌, ◌<◌, length, replicate};
 ghost use Rattle.book.specs.Layout.{list_of};
 ghost use Rattle.filling.specs.Fill.{LineFilled};

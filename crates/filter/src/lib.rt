@@ -2,6 +2,7 @@
 // The calls of the cycle return an outcome as the number of `outcomes`. Nothing is refused here. The contracts cite `specs/Filtered.antt` and the
 // definitions of filter_model; one strike is a call of strikes or thinning.
 #![tactic(auto)]
+
 ghost use Rattle.std.specs.Prelude.{true, false};
 ghost use Rattle.filter_model.specs.Cuts.{StrikeCut, FixCut, BoundCut};
 ghost use Rattle.filter_model.specs.Mirror.{SettledFrom};

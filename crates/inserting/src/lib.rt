@@ -2,13 +2,14 @@
 // hold, links made to lead to the first right end (the crate `segments` says what a cell holds). A broken corner is answered; nothing is refused
 // here. The contracts cite `specs/Visit.antt` and the definitions of segments_model.
 #![tactic(auto)]
+
 ghost use Rattle.std.specs.Prelude.{◌≡◌, ◌+◌, ◌-◌, ◌<◌, ◌≤◌, length, get_or};
 ghost use Rattle.segments_model.specs.Build.{Inserted, Pointed};
 ghost use Rattle.segments_model.specs.Links.{Fresh};
 ghost use Rattle.inserting.specs.Visit.{Visit};
 
 // How the building goes on after a prefix: its corner lacks slack, or the first right end is at a place.
-#[derive(Drop)]
+#[derive(Clone, Copy)]
 pub enum Visited {
     Lacking,
     Onward(usize),

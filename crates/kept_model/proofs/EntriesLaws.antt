@@ -23,10 +23,10 @@ use Rattle.settle_fault.proofs.SettleLaws.{fit_of}
 use Rattle.book_opening.proofs.OpenLaws.{state_room}
 use Rattle.session_model.specs.BookRun.{state_after}
 use Rattle.session_model.specs.Calls.{Call, calls_of}
-use Rattle.session_model.specs.Machine.{opened, runs, run}
+use Rattle.session_model.specs.Machine.{runs, run}
 use Rattle.session_model.specs.Standing as Model
 use Rattle.session_model.specs.Standing.{stand_from}
-use Rattle.session_model.specs.State.{Reply, words, words_of}
+use Rattle.session_model.specs.State.{Reply, words_of}
 use Rattle.session_model.proofs.CallsLaws.{length_calls_of}
 use Rattle.session_fault.specs.Entry.{most_marks, most_bytes, bad_calls, refused, opened_word}
 use Rattle.session_fault.proofs.EntryLaws.{or_first, or_second, or_none, none_first, none_second, unless_some, session_refused}

@@ -1,13 +1,14 @@
 // Eight numbers of 16 bits side by side, each in a field of its own: a loop on them takes all eight at once. Nothing is refused here.
 // The contracts cite `specs/Lanes.antt`.
 #![tactic(auto)]
+
 ghost use Rattle.std.specs.Prelude.{◌≡◌, ◌+◌, ◌-◌, ◌<◌, min, ltb, length, get_or};
 ghost use Rattle.std.proofs.lemmas.List.Edits.{sets};
 ghost use Rattle.lanes.specs.Lanes.{lanes, lane, total, Eightfold};
 
 use stores::{either16, entry, less16};
 
-#[derive(Drop)]
+#[derive(Clone, Copy)]
 pub struct Eight {
     pub e0: u16,
     pub e1: u16,

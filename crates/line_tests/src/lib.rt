@@ -1,6 +1,7 @@
 // Tests of one value's line, without a branch in the loop: whether it keeps its rules, and whether some entries of it are crossed. Nothing is refused here.
 // The contracts cite `CrossAnswer` of specs/Cross.antt, and `Decides`, `Stairs` and `Line` of closing_model's specs/Sweep.antt.
 #![tactic(auto)]
+
 ghost use Rattle.std.specs.Prelude.{◌+◌, ◌≤◌, ◌<◌, length, get_or};
 ghost use Rattle.closing_model.specs.Table.{view};
 ghost use Rattle.closing_model.specs.Sweep.{Decides, Stairs, Line};

@@ -1,6 +1,7 @@
 // The rules along one value's line: between a prefix and the next, forward and back.
 // The contracts cite `raised`, `Did`, `Passed`, `Fwds`, `Bwds` and `Line` of closing_model's specs/Sweep.antt.
 #![tactic(auto)]
+
 ghost use Rattle.std.specs.Prelude.{◌≡◌, ◌+◌, ◌-◌, ◌<◌, length, get_or};
 ghost use Rattle.closing_model.specs.Sweep.{raised, Did, Passed, Fwds, Bwds, Line};
 

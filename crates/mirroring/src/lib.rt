@@ -1,6 +1,7 @@
 // Builds the cells of all values from a table's rises and the masks: the rows of both kinds, and the set of open slots. A broken corner is answered;
 // nothing is refused here. The contracts cite `specs/Built.antt` and the definitions of filter_model.
 #![tactic(auto)]
+
 ghost use Rattle.std.specs.Prelude.{◌≡◌, true, false, ◌<◌, ◌≤◌, length};
 ghost use Rattle.filter_model.specs.Mirror.{row};
 ghost use Rattle.mirroring.specs.Built.{Building, RowsBuilt, Marking, WordOf, Marked, AllBuilt};

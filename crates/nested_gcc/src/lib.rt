@@ -3,6 +3,7 @@
 // or 256 + the number of a refusal. A step and a call rest on memory that an opening which was not refused, and what came after it, left. The contracts cite
 // entries_model's `specs/Entries.antt` and `specs/Version.antt`, and kept_model's `specs/Kept.antt` and `specs/Entries.antt`.
 #![tactic(auto)]
+
 ghost use Rattle.std.specs.Prelude.{◌≡◌};
 ghost use Rattle.session_model.specs.Calls.{call_of};
 ghost use Rattle.entries_model.specs.Entries.{check_answer, CloseEntry, SettleEntry, SessionEntry, ImportEntry, ProbeEntry, CanonicalEntry};

@@ -2,6 +2,7 @@
 // stable; or finds that no stable list is left. Nothing is refused here. The contracts cite `specs/Opened.antt` and the definitions of filter and
 // filter_model.
 #![tactic(auto)]
+
 ghost use Rattle.std.specs.Prelude.{◌<◌};
 ghost use Rattle.filter.specs.Filtered.{Filtered};
 ghost use Rattle.opening.specs.Opened.{Anything, Opening, QuietValue, QuietBelow, Rooms, OpenAnswer};

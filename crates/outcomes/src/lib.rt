@@ -1,12 +1,13 @@
 // What a call of the filter led to, and the number that stands for it: twice the trail's height, and one more for a dead end, so that it is returned in
 // a register. Nothing is refused here. The contracts cite `specs/Codes.antt`.
 #![tactic(auto)]
+
 ghost use Rattle.std.specs.Prelude.{◌≡◌, ◌+◌, ◌*◌, ◌<◌};
 ghost use Rattle.outcomes.specs.Codes.{height_of, is_dead, outcome_of};
 ghost use Rattle.outcomes.specs.declared.Outcome.TheVariants.{Live, Dead};
 
 // The trail's height after a call, and whether a stable list may be left.
-#[derive(Drop)]
+#[derive(Clone, Copy)]
 pub enum Outcome {
     Live(usize),
     Dead(usize),

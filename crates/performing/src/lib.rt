@@ -1,6 +1,7 @@
 // One call on a session that no number refuses, done as the plain machine of session_model does it: a match on the kind byte. Nothing is refused here. The
 // contract cites `Performing` of `specs/Performing.antt`, and `Acts` of acts.
 #![tactic(auto)]
+
 ghost use Rattle.calls.specs.Given.{call_given};
 ghost use Rattle.acts.specs.Answers.{Acts};
 ghost use Rattle.performing.specs.Performing.{Performing};

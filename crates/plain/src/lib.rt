@@ -4,6 +4,7 @@
 //
 // At most 31 slots and 8 types. Whatever lies outside an array reads as 0, and a store there does nothing (the crate `arrays`, the one that it stands on).
 #![tactic(auto)]
+
 mod lists; // lists.rt: settling, the rules of a stable list repeated
 mod machine; // machine.rt: the plain machine of sessions
 mod tables; // tables.rt: closing, the rules of a closed table repeated

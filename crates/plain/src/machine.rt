@@ -5,7 +5,7 @@ use crate::walls::walls;
 use arrays::{MARKS, Masks, Pile, Table, alone, less, mask, narrow, plus, save, saved, set_mask};
 
 // A call, taken apart.
-#[derive(Drop)]
+#[derive(Clone, Copy)]
 pub struct Call {
     pub kind: u8,
     pub board_type: usize,
@@ -13,7 +13,7 @@ pub struct Call {
 }
 
 // A session between two calls, but for M and the pile.
-#[derive(Drop)]
+#[derive(Clone, Copy)]
 pub struct Session {
     pub n: usize,
     pub k: usize,
@@ -28,7 +28,7 @@ pub struct Session {
 }
 
 // The two words of a call, and the flag and the marks after it.
-#[derive(Drop)]
+#[derive(Clone, Copy)]
 pub struct Told {
     pub first: u32,
     pub second: u32,

@@ -1,6 +1,7 @@
 // A random book through the plain filter, step by step, and the words of its calls compared; what is counted is what the plain filter says: the part of
 // the test program randoms that stands on both. The contracts say nothing, so it is proved to be safe and to end, and no more. Nothing is refused.
 #![tactic(auto)]
+
 use arrays::{Masks, Pile, Rows, Table, entry, less, ones, plus, set_entry, set_mask, wide};
 use plain::{Call, Session, make_call};
 use random_books::{

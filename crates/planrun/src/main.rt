@@ -1,22 +1,25 @@
 // planrun: runs the calls of calls.bin on a session of the book of book.bin, both in the working folder, and prints the answers and the last
 // masks, or the number that refuses the two. A file that cannot be opened counts as empty. Where a read fails, what was read before it counts as
-// the file: nothing, if it is the first read. Of a longer file than any good one just enough is read that its length refuses it. What is printed is
-// tested, not proved: the work is `session::run_session`.
+// the file: nothing, if it is the first read. Of a longer file than any good one just enough is read that its length refuses it. Where a
+// write fails, planrun ends with that error. What is printed is tested, not proved: the work is `session::run_session`.
 #![tactic(auto)]
+
 ghost use Rattle.std.specs.Prelude.{◌*◌, ◌≤◌, length};
 
 use answer::Answer;
 use book::Limits;
-use libc::STDOUT_FILENO;
 use session::run_session;
+use std::io::Read;
+use std::rt::Files;
+use std::{fs, io};
 
-fn main() {
+fn main(rt: HostRuntime) -> io::Result<()> {
     let mut book = [0u8; 9229];
     let mut calls = [0u8; 16385];
     let mut answers = [0u32; 8192];
     let mut masks = [0u32; 256];
-    let book_end = read_file(b"book.bin", &mut book);
-    let calls_end = read_file(b"calls.bin", &mut calls);
+    let book_end = read_file(&rt, "book.bin", &mut book);
+    let calls_end = read_file(&rt, "calls.bin", &mut calls);
     let limits = Limits {
         slots: 256,
         values: 32,
@@ -31,20 +34,31 @@ fn main() {
     );
     let n = mask_count(&book[..book_end]);
     let count = calls_end / 4;
-    report(answer, &answers, count, &masks, n);
+    report(&rt, answer, &answers, count, &masks, n)
 }
 
 // Reads the file into the front of buf, as far as it goes or buf has room. How many bytes were read.
-fn read_file(path: &[u8], buf: &mut [u8]) -> usize
+fn read_file(rt: &impl Files, path: &str, buf: &mut [u8]) -> usize
     ensures { result ≤ length buf.new }
 {
-    let fd = os::open_read(path);
-    if fd < 0 {
-        return 0;
+    match fs::open(rt, path) {
+        Ok(mut file) => read_full(&mut file, buf),
+        Err(_) => 0,
     }
-    let end = io::read_full(fd, buf);
-    libc::close(fd);
-    end
+}
+
+// Reads until buf is full, the file ends or a read fails: each turn but the last reads a byte at least. How many bytes were read.
+fn read_full(file: &mut impl Read, buf: &mut [u8]) -> usize
+    ensures { result ≤ length buf.new }
+{
+    let mut filled = 0;
+    for _ in 0..buf.len() {
+        match file.read(&mut buf[filled..]) {
+            Ok(0) | Err(_) => break,
+            Ok(count) => filled += count,
+        }
+    }
+    filled
 }
 
 // The number of slots of a book, at most 256.
@@ -62,53 +76,45 @@ fn mask_count(book: &[u8]) -> usize
 }
 
 // Prints what the session answered.
-fn report(answer: Answer, answers: &[u32], count: usize, masks: &[u32], n: usize)
-    requires { (2 * count ≤ length answers.now) × (n ≤ length masks.now) }
+fn report(
+    rt: &impl Print,
+    answer: Answer,
+    answers: &[u32],
+    count: usize,
+    masks: &[u32],
+    n: usize,
+) -> io::Result<()>
+    requires words { 2 * count ≤ length answers.now }
+    requires slots { n ≤ length masks.now }
 {
     match answer {
-        Answer::Refused(number) => {
-            io::write_all(STDOUT_FILENO, b"refused ");
-            io::print_decimal(STDOUT_FILENO, number as u64);
-            io::write_all(STDOUT_FILENO, b"\n");
-        }
-        Answer::Live => {
-            io::write_all(STDOUT_FILENO, b"open 0\n");
-            print_answers(answers, count);
-            print_masks(masks, n);
-        }
-        Answer::Dead => {
-            io::write_all(STDOUT_FILENO, b"open 1\n");
-            print_answers(answers, count);
-            print_masks(masks, n);
-        }
+        Answer::Refused(number) => return println!(rt; "refused {number}"),
+        Answer::Live => println!(rt; "open 0")?,
+        Answer::Dead => println!(rt; "open 1")?,
     }
+    print_answers(rt, answers, count)?;
+    print_masks(rt, masks, n)
 }
 
 // A line for each call: its index and its two words.
-fn print_answers(answers: &[u32], count: usize)
+fn print_answers(rt: &impl Print, answers: &[u32], count: usize) -> io::Result<()>
     requires { 2 * count ≤ length answers.now }
 {
     for i in 0..count {
-        io::print_decimal(STDOUT_FILENO, i as u64);
-        print_word(answers[2 * i]);
-        print_word(answers[2 * i + 1]);
-        io::write_all(STDOUT_FILENO, b"\n");
+        let first = answers[2 * i];
+        let second = answers[2 * i + 1];
+        println!(rt; "{i} {first} {second}")?;
     }
+    Ok(())
 }
 
 // One line: the masks.
-fn print_masks(masks: &[u32], n: usize)
+fn print_masks(rt: &impl Print, masks: &[u32], n: usize) -> io::Result<()>
     requires { n ≤ length masks.now }
 {
-    io::write_all(STDOUT_FILENO, b"masks");
-    for s in 0..n {
-        print_word(masks[s]);
+    print!(rt; "masks")?;
+    for mask in &masks[..n] {
+        print!(rt; " {mask}")?;
     }
-    io::write_all(STDOUT_FILENO, b"\n");
-}
-
-// A space and a number.
-fn print_word(x: u32) {
-    io::write_all(STDOUT_FILENO, b" ");
-    io::print_decimal(STDOUT_FILENO, x as u64);
+    println!(rt)
 }

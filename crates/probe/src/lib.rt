@@ -2,6 +2,7 @@
 // gets an answer, and the lent bytes are written only where no number refuses. The contracts cite probe_model's `specs/Probe.antt` and, below the
 // entry, `specs/Ready.antt` and `specs/Trial.antt`.
 #![tactic(auto)]
+
 mod entry; // entry.rt: the book opened once, and each call tried on it
 mod fault; // fault.rt: the number that refuses
 mod listed; // listed.rt: the parts of a call in the list

@@ -3,7 +3,7 @@
 use mathlib.Core.Path.{◌≡◌, refl, sym, ap, ◌∙◌}
 use mathlib.Core.List.{List, [], ◌∷◌}
 use mathlib.Core.Option.{Option, none, some}
-use Prim.Native.Nat.{ℕ, ◌/◌, ◌<◌}
+use Prim.Native.Nat.{ℕ, ◌/◌}
 use lib.ListN.{length, get_or}
 use Rattle.book.specs.Idle.{OnlyByte3, OtherIdle}
 use Rattle.book.specs.declared.Limits.{Limits}

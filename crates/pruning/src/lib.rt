@@ -1,6 +1,7 @@
 // Everything before a corner without slack settled, for a value and a kind of bound: what an opening asks of the filter. Nothing is refused here. The
 // contract cites filter's `specs/Filtered.antt`.
 #![tactic(auto)]
+
 ghost use Rattle.settling_model.specs.Settled.{Settled};
 ghost use Rattle.filter_model.specs.Cuts.{BoundCut};
 ghost use Rattle.filter_model.specs.State.{Pruning};

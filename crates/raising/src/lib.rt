@@ -1,6 +1,7 @@
 // A fall of the slack taken back in the cells of one row, by the tag and the note that it left. `raise_in` takes a row of n slots, its cells from 0 to
 // n + 1. Nothing is refused here. The contracts cite segments_model's `specs/Raise.antt`.
 #![tactic(auto)]
+
 ghost use Rattle.std.specs.Prelude.{◌≡◌, ◌+◌, ◌<◌, ◌≤◌, length, get_or, set};
 ghost use Rattle.segments_model.specs.Part.{part, over};
 ghost use Rattle.segments_model.specs.Raise.{lifted, parted, risen, Raisable};

@@ -6,7 +6,7 @@ use arrays::{
 };
 
 // A book's counts of slots, types and rows, its idle byte, and its number in the run.
-#[derive(Drop)]
+#[derive(Clone, Copy)]
 pub struct Case {
     pub number: usize,
     pub n: usize,

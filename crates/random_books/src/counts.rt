@@ -67,7 +67,7 @@ pub fn add_if(counts: &mut Counts, which: usize, x: u32) {
 }
 
 // The step of a book whose results are compared.
-#[derive(Drop)]
+#[derive(Clone, Copy)]
 pub struct Step {
     pub book: usize,
     pub step: usize,

@@ -1,6 +1,8 @@
-// Random books and call lists, what the engine wrote compared, and the counts of a comparison: the part of the test program randoms that calls neither
-// the entries nor the plain filter. The contracts say nothing, so it is proved to be safe and to end, and no more. Nothing is refused: a store past an array does nothing.
+// Random books and call lists, what the engine wrote compared, and the counts of a comparison: the part of the test program randoms that calls
+// neither the entries nor the plain filter. The contracts say nothing, so it is proved to be safe and to end, and no more. Nothing is refused: a
+// store past an array does nothing.
 #![tactic(auto)]
+
 mod books; // books.rt: random books
 mod bytes; // bytes.rt: bytes of books and calls
 mod calls; // calls.rt: random call lists

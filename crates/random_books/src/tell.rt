@@ -1,11 +1,12 @@
 // Counts what the plain machine answers, and prints the counts.
 use crate::counts::{
-    BOOKS, CALLS, CLOSED_DEAD, Counts, DEAD_DECISIONS, DIFFERENCES, FIRST_BOOK, LIVE,
-    LIVE_DECISIONS, LOWER_WALLS, MARKS_AND_BACKS, REFUSED, SETTLED_DEAD, SHOWN, STRUCK,
+    BOOKS, CLOSED_DEAD, Counts, DEAD_DECISIONS, DIFFERENCES, FIRST_BOOK, FIRST_PLACE, FIRST_STEP,
+    LIVE, LIVE_DECISIONS, LOWER_WALLS, MARKS_AND_BACKS, REFUSED, SETTLED_DEAD, SHOWN, STRUCK,
     UPPER_WALLS, add, add_if, count,
 };
 use arrays::{less, plus, wide};
-use libc::STDOUT_FILENO;
+use std::io;
+use std::io::Write;
 
 // Counts the book by what came of it: closing's answer and settling's.
 pub fn tell_book(closed: u32, settled: u32, counts: &mut Counts) {
@@ -43,51 +44,66 @@ fn tell_value(kind: u8, value: u32, counts: &mut Counts) {
     }
 }
 
+// The names of the counts, in the order of their places, from BOOKS to DIFFERENCES.
+const NAMES: [&str; 21] = [
+    "books",
+    "closed dead",
+    "settled dead",
+    "live",
+    "bounds moved",
+    "settling struck",
+    "calls",
+    "live decisions",
+    "dead decisions",
+    "struck",
+    "marks and backs",
+    "shown above 0",
+    "upper walls above 0",
+    "lower walls above 0",
+    "refused 11",
+    "refused 12",
+    "refused 13",
+    "refused 14",
+    "refused 15",
+    "refused 16",
+    "differences",
+];
+
 // Prints all counts, one to a line, and the first difference if there is one.
-pub fn report(counts: &Counts) {
-    lines(
-        b"books #closed dead #settled dead #live #bounds moved #settling struck #",
-        BOOKS,
-        counts,
-    );
-    lines(
-        b"calls #live decisions #dead decisions #struck #marks and backs #",
-        CALLS,
-        counts,
-    );
-    lines(
-        b"shown above 0 #upper walls above 0 #lower walls above 0 #",
-        SHOWN,
-        counts,
-    );
-    lines(
-        b"refused 11 #refused 12 #refused 13 #refused 14 #refused 15 #refused 16 #",
-        REFUSED,
-        counts,
-    );
-    lines(b"differences #", DIFFERENCES, counts);
+pub fn report(out: &mut impl Write, counts: &Counts) -> io::Result<()> {
+    for (which, name) in NAMES.iter().enumerate() {
+        line(out, name, count(counts, which))?;
+    }
     if 0 < count(counts, DIFFERENCES) {
-        lines(b"first in book #step #place #", FIRST_BOOK, counts);
+        line(out, "first in book", count(counts, FIRST_BOOK))?;
+        line(out, "step", count(counts, FIRST_STEP))?;
+        line(out, "place", count(counts, FIRST_PLACE))?;
     }
+    Ok(())
 }
 
-// Prints the text, for each # of it a count and the line's end: the counts from the place `first` on.
-fn lines(text: &[u8], first: usize, counts: &Counts) {
-    let mut which = first;
-    for i in 0..text.len() {
-        if text[i] != b'#' {
-            byte_of(text, i);
-            continue;
-        }
-        io::print_decimal(STDOUT_FILENO, count(counts, which) as u64);
-        io::write_all(STDOUT_FILENO, b"\n");
-        which = plus(which, 1);
-    }
+// A name and a count.
+fn line(out: &mut impl Write, name: &str, number: usize) -> io::Result<()> {
+    writeln!(out, "{name} {number}")
 }
 
-// Prints byte i of the text.
-fn byte_of(text: &[u8], i: usize) {
-    if i < text.len() {
-        io::write_all(STDOUT_FILENO, &text[i..i + 1]);
+#[cfg(test)]
+mod tests {
+    use super::*;
+    use crate::counts::{Step, same};
+    use std::test::Fail;
+
+    // The first of two differences is told after all counts.
+    #[test]
+    fn first_difference(rt: HostRuntime) -> Result<(), Fail> {
+        let mut counts = [0usize; 32];
+        same(&mut counts, Step { book: 7, step: 4 }, 12, 1, 2);
+        same(&mut counts, Step { book: 8, step: 2 }, 3, 0, 5);
+        let mut text = Vec::new(rt.alloc());
+        report(&mut text, &counts)?;
+        let told = b"refused 16 0\ndifferences 2\nfirst in book 7\nstep 4\nplace 12\n";
+        assert!(rt; text.as_slice().starts_with(b"books 0\nclosed dead 0\n"));
+        assert!(rt; text.as_slice().ends_with(told));
+        Ok(())
     }
 }

@@ -6,23 +6,25 @@
 // The file stdout was not written by this program. A program in Rust, which is not kept here, made the same books and calls from the same
 // random numbers, ran them through host/plain-filter, which has no code in common with the crate plain, and printed these counts.
 #![tactic(auto)]
+
 mod compare; // compare.rt: the engine against the plain filter, step by step
 
 use compare::{compare_check, compare_closing, compare_session, compare_settling};
 use random_books::{
     Counts, call_count, front, make_book, make_calls, report, tell_book, write_book,
 };
+use std::io;
 
 // The books of a run.
 const BOOKS: usize = 2000;
 
-fn main() {
+fn main(rt: HostRuntime) -> io::Result<()> {
     let mut counts = [0usize; 32];
     let mut seed = 2026u64;
     for number in 0..BOOKS {
         try_book(&mut seed, number, &mut counts);
     }
-    report(&counts);
+    report(&mut io::writer(&rt), &counts)
 }
 
 // Makes a book and a call list, and compares what the engine and the plain filter make of them.

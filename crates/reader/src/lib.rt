@@ -2,6 +2,7 @@
 // It refuses by document 01's numbers 1 to 8, each a case of `Verdict`; every slice of every length gets an answer.
 // What each function requires is what the ones before it have shown. The contracts cite book's `specs/Refusal.antt` and `specs/Layout.antt`.
 #![tactic(auto)]
+
 ghost use Rattle.std.specs.Prelude.{◌≡◌, ◌+◌, ◌*◌, ◌≤◌, eqb, length};
 ghost use Rattle.book.specs.Layout.{mask_at, row_at};
 ghost use Rattle.book.specs.Refusal.{refusal, first_of, mask_fault, row_fault, number_of};

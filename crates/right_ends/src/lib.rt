@@ -2,6 +2,7 @@
 // spent, or joined to the one before. A cell below 1024 is a right end, from 1024 on it is a link (segments_model's `specs/Links.antt`). Nothing is
 // refused here. The contracts cite the definitions of segments_model.
 #![tactic(auto)]
+
 ghost use Rattle.std.specs.Prelude.{◌≡◌, ◌+◌, ◌-◌, ◌<◌, ◌≤◌, length, get_or, set};
 ghost use Rattle.segments_model.specs.Links.{gaps};
 ghost use Rattle.segments_model.specs.Search.{Latest};

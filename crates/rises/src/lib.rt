@@ -1,6 +1,7 @@
 // The rises of one kind of bound: a closed table's lines start at 0 and grow by 0 or 1, so a mask for each prefix length holds them.
 // Every table is taken and nothing is refused. The contracts cite `specs/Rises.antt`.
 #![tactic(auto)]
+
 ghost use Rattle.std.specs.Prelude.{◌≡◌, not, ◌++◌, ◌+◌, ◌*◌, ◌-◌, ◌^◌, ◌<◌, eqb, length, get_or, drop};
 ghost use Rattle.domains.specs.Counts.{bit};
 ghost use Rattle.domains.specs.Mask.{test_bit};

@@ -13,7 +13,7 @@ use Rattle.session_model.specs.Calls.{Call, call_at, calls_to}
 use Rattle.session_model.specs.Machine.{runs, step}
 use Rattle.session_model.specs.Standing as Model
 use Rattle.session_model.specs.Standing.{stand, stand_from}
-use Rattle.session_model.specs.State.{Rules, State, Reply, words, words_of}
+use Rattle.session_model.specs.State.{Rules, State, Reply, words_of}
 use Rattle.session_model.proofs.CallsLaws.{calls_to_next, length_calls_to}
 use Rattle.session_model.proofs.StandingLaws.{stand_from_snoc}
 use Rattle.session_model.proofs.RunLaws.{runs_snoc, length_replies, words_of_append, length_words_of}

@@ -3,6 +3,7 @@
 // place, 1024 to the next one, that jumps no right end. `fall_in` takes a row of n slots, its cells from 0 to n + 1. Nothing is refused here. The
 // contracts cite `specs/UsedUp.antt`, `specs/Fell.antt` and the definitions of segments_model.
 #![tactic(auto)]
+
 ghost use Rattle.std.specs.Prelude.{◌+◌, ◌<◌, ◌≤◌, length};
 ghost use Rattle.segments_model.specs.Part.{Lent};
 ghost use Rattle.segments.specs.UsedUp.{UsedUp};
@@ -12,7 +13,7 @@ use right_ends::{hop, join, latest_standing, spend, wide};
 
 // What a fall of the slack meets. No corner loses its last slack: the gap of the right end t fell by one, no right end is after the slot, or the
 // right end p was joined. A corner has none to lose. Or t is the last corner that loses its last slack, and the spent corner was z.
-#[derive(Drop)]
+#[derive(Clone, Copy)]
 pub enum Hit {
     Lowered(usize),
     Still,

@@ -1,6 +1,7 @@
 // A session from bytes to bytes, at document 01's limits. The contracts cite `specs/SessionOut.antt`, entries_model's
 // `specs/Entries.antt` and session_fault's `specs/Entry.antt`.
 #![tactic(auto)]
+
 ghost use Rattle.elements.specs.Elements.{bytes_of};
 ghost use Rattle.session_model.specs.Calls.{calls_of};
 ghost use Rattle.session_fault.specs.Entry.{SessionRan, session_good};

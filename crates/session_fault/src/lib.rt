@@ -1,6 +1,7 @@
 // The number that refuses a book, a call list or the outputs lent with them: the book's own, 1 to 8, then 10 where the list is not whole calls
 // or too long, then 9 where an output is too short. The contract cites `specs/Entry.antt`, what the session entry answers and writes.
 #![tactic(auto)]
+
 ghost use Rattle.std.specs.Prelude.{◌≡◌};
 ghost use Rattle.session_fault.specs.Entry.{session_fault};
 

@@ -7,7 +7,7 @@
 --   standing_after           the session's standing after the list
 -- `rules_of_settle` ties the opening to `settled_book`. Assumes nothing.
 use Rattle.std.specs.Prelude.{List, ℕ}
-use Rattle.std.proofs.Math.Option.{bind, Option·elim}
+use Rattle.std.proofs.Math.Option.{bind, Option-elim}
 use Rattle.book.specs.Layout.{slots, values, idle, masks}
 use Rattle.closing_model.specs.Table.{view}
 use Rattle.settling_model.specs.Stable.{table_bounds}
@@ -29,7 +29,7 @@ rules_of b limit =
       values = values b;
       limit = limit;
       settle = λ M. bind (closed_book b) (λ T. settling (table_bounds (slots b) (values b) (view T.0 T.1)) M);
-      standing = λ kind M v. Option·elim (closed_book b) 0 (λ T. wall_count kind (slots b) (view T.0 T.1) M v);
+      standing = λ kind M v. Option-elim (closed_book b) 0 (λ T. wall_count kind (slots b) (view T.0 T.1) M v);
       ones = news_total (idle b);
     }
 

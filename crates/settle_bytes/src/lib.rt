@@ -1,5 +1,6 @@
 // Settling from bytes to bytes, at document 01's limits. The contracts cite entries_model's `specs/Entries.antt` and settle_fault's `specs/Settle.antt`.
 #![tactic(auto)]
+
 ghost use Rattle.std.specs.Prelude.{◌*◌, ◌≤◌, length};
 ghost use Rattle.elements.specs.Elements.{bytes_of};
 ghost use Rattle.settle_fault.specs.Settle.{Settles, settle_good};

@@ -1,6 +1,7 @@
 // The number that refuses a book, or the output lent with it: the book's own, 1 to 8, then 9 where the output is too short for its masks.
 // The contract cites `specs/Settle.antt`, what settle answers and writes. `specs/Ready.antt` is what the functions below that entry rest on.
 #![tactic(auto)]
+
 ghost use Rattle.std.specs.Prelude.{◌≡◌};
 ghost use Rattle.settle_fault.specs.Settle.{settle_fault};
 

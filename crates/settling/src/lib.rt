@@ -3,6 +3,7 @@
 // Its limits may be any for which the working arrays have room.
 // The contracts cite settle_fault's `specs/Settle.antt` and `specs/Ready.antt`.
 #![tactic(auto)]
+
 ghost use Rattle.std.specs.Prelude.{◌≡◌, length};
 ghost use Rattle.answer.specs.Answer.{word_of};
 ghost use Rattle.settling_model.specs.Book.{settled_book};

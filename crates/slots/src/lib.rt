@@ -1,6 +1,7 @@
 // What the filter reads of the slots: the values that one has, and which are open, 32 at a time. Nothing is refused here. The contracts cite
 // `specs/Values.antt` and the definitions of domains and filter_model.
 #![tactic(auto)]
+
 ghost use Rattle.std.specs.Prelude.{◌≡◌, false, ℕ, ◌+◌, ◌*◌, ◌-◌, ◌<◌, ◌≤◌, eqb, ltb, length, get_or};
 ghost use Rattle.std.specs.Int.Count.{ones};
 ghost use Rattle.domains.specs.Mask.{test_bit, Has, clear_bit};

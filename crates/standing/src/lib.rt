@@ -1,6 +1,7 @@
 // How many segments stand in the cells of one row. `standing_in` takes a row of n slots, its cells from 0 to n + 1. Nothing is refused here. The
 // contracts cite segments_model's `specs/Cells.antt` and `specs/Links.antt`.
 #![tactic(auto)]
+
 ghost use Rattle.std.specs.Prelude.{◌≡◌, ◌+◌, ◌<◌, length};
 ghost use Rattle.segments_model.specs.Cells.{standing_in};
 ghost use Rattle.segments_model.specs.Links.{gaps};

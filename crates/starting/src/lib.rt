@@ -1,6 +1,7 @@
 // The starting table of a book (document 01, 'Closing'), in two lent slices. The rows are read from the part of the book that begins with them.
 // The contracts cite `specs/Ready.antt` and closing_model's `specs/Start.antt`.
 #![tactic(auto)]
+
 ghost use Rattle.std.specs.Prelude.{◌≡◌};
 ghost use Rattle.book.specs.Layout as Layout;
 ghost use Rattle.closing_model.specs.Start.{start_lowers, start_uppers};

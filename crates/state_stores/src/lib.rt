@@ -1,6 +1,7 @@
 // Single stores in the state of the filter: a mask, a cell, the set of open slots, the trail; what a strike writes, and what puts it back. Nothing is
 // refused here. The contracts cite the definitions of segments_model and filter_model.
 #![tactic(auto)]
+
 ghost use Rattle.std.specs.Prelude.{◌≡◌, ◌+◌, ◌*◌, ◌<◌, ◌≤◌, length, get_or, set};
 ghost use Rattle.settling_model.specs.Settled.{LacksAt};
 ghost use Rattle.segments_model.specs.Raise.{lifted};

@@ -1,6 +1,7 @@
 // One call on a session: refused by its number, or done as the plain machine of session_model does it. The contracts cite `Steps` of
 // `specs/Steps.antt`.
 #![tactic(auto)]
+
 ghost use Rattle.calls.specs.Given.{call_given};
 ghost use Rattle.acts.specs.Represents.{Running};
 ghost use Rattle.stepping.specs.Steps.{Steps};

@@ -1,6 +1,7 @@
 // Single entries of a table: read, compared, raised, lowered. The contracts cite `raised`, `lowered` and `Stored` of closing_model's
 // specs/Sweep.antt.
 #![tactic(auto)]
+
 ghost use Rattle.std.specs.Prelude.{◌≡◌, ◌-◌, ◌<◌, min, max, length, get_or};
 ghost use Rattle.std.specs.Int.Bits.{bit_or};
 ghost use Rattle.closing_model.specs.Sweep.{raised, lowered, Stored};

@@ -2,6 +2,7 @@
 // the trail; what follows from it is the filter's. Nothing is refused here. The contract cites `specs/Answers.antt` and the definitions of
 // filter_model.
 #![tactic(auto)]
+
 ghost use Rattle.std.specs.Prelude.{◌<◌};
 ghost use Rattle.domains.specs.Masks.{HasAt};
 ghost use Rattle.filter_model.specs.State.{Ready};
@@ -9,7 +10,7 @@ ghost use Rattle.strikes.specs.Answers.{RemovalAnswer};
 
 // One whole strike: not made, since no stable list allows it; or made, with the slots from which on and before which the struck value must be
 // settled, those for the slot's only value, and that value.
-#[derive(Drop)]
+#[derive(Clone, Copy)]
 pub enum Removal {
     Contradiction,
     Made(usize, usize, usize, usize, u32),

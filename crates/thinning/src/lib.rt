@@ -1,6 +1,7 @@
 // A strike that leaves a slot several values: takes a value out of the slot, lets the value's row of cells fall, and writes the trail; what follows from it
 // is the filter's. Nothing is refused here. The contract cites `specs/Thinned.antt` and the definitions of filter_model.
 #![tactic(auto)]
+
 ghost use Rattle.std.specs.Prelude.{◌≡◌, ◌<◌, get_or};
 ghost use Rattle.std.specs.Int.Count.{ones};
 ghost use Rattle.domains.specs.Mask.{clear_bit};

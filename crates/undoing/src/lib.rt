@@ -2,6 +2,7 @@
 // tags and notes, its value into the masks, and a slot that it left one value into the set of open slots. Nothing is refused here. The contracts
 // cite `specs/Undone.antt` and segments_model's `specs/Raise.antt`.
 #![tactic(auto)]
+
 ghost use Rattle.std.specs.Prelude.{◌≡◌, ◌+◌, ◌*◌, ◌<◌};
 ghost use Rattle.segments_model.specs.Part.{over};
 ghost use Rattle.segments_model.specs.Raise.{risen};

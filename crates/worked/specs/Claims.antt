@@ -13,7 +13,7 @@
 --   every rows              each row passes
 -- `holds_means`, `passes_says` and `every_says` tie the test to the meaning. Assumes nothing.
 use Rattle.std.specs.Prelude.{◌≡◌, Bool, true, false, ◌&&◌, List, [], ◌∷◌, ℕ, ◌+◌, eqb}
-use Rattle.std.proofs.Math.Option.{Option, none, some, Option·elim}
+use Rattle.std.proofs.Math.Option.{Option, none, some, Option-elim}
 use Rattle.book.specs.declared.Limits.{Limits}
 use Rattle.book.specs.Layout.{slots, values, list_of}
 use Rattle.book.specs.Refusal.{refusal, GoodBook}
@@ -65,9 +65,9 @@ last_masks b calls = (state_after b most_marks (calls_of calls)).masks
 -- ---- the test
 unfoldable pub holds : List ℕ → Claim → Bool
 holds b (closes side v bounds) =
-    Option·elim (closed_book b) false (λ T. same (line_of (bound_of side (view T.0 T.1)) (slots b) v) bounds)
-holds b dead = Option·elim (closed_book b) true (λ T. false)
-holds b (settles M) = Option·elim (settled_book b) false (λ N. same N M)
+    Option-elim (closed_book b) false (λ T. same (line_of (bound_of side (view T.0 T.1)) (slots b) v) bounds)
+holds b dead = Option-elim (closed_book b) true (λ T. false)
+holds b (settles M) = Option-elim (settled_book b) false (λ N. same N M)
 holds b no_plan = planless b
 holds b (has_plan p) = plan_of b p
 holds b (session calls opening words last) =

@@ -1,0 +1,11 @@
+-- What each turn of `csv_import::passes::test_later` keeps, and what falls from turn to turn.
+use Rattle.csv_import.proofs.PassLaws.{Testing}
+use lib.ListN.{length}
+use Prim.Native.Nat.{◌-◌}
+use Rattle.csv_import.proofs.passes.test_later.Given as goal
+
+abbrev pub invariant-loop-at : goal.invariant-loop-at
+invariant-loop-at l = Testing l.n l.k l.text l.from l.at l.rows l.refused
+
+abbrev pub decreases-loop-at : goal.decreases-loop-at
+decreases-loop-at l = length l.text - l.at

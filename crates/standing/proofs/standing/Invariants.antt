@@ -1,0 +1,12 @@
+-- What each turn of `standing::standing` keeps, and what falls from turn to turn.
+use mathlib.Core.Path.{◌≡◌}
+use Prim.Native.Nat.{◌-◌, ◌≤◌}
+use Rattle.segments_model.specs.Cells.{standing_in}
+use Rattle.segments_model.specs.Links.{gaps}
+use Rattle.standing.proofs.standing.Given as goal
+
+abbrev pub invariant-loop-t : goal.invariant-loop-t
+invariant-loop-t l = (l.t ≤ l.n) × (l.count ≤ l.t) × (l.count ≡ standing_in (gaps l.cells) l.t)
+
+abbrev pub decreases-loop-t : goal.decreases-loop-t
+decreases-loop-t l = l.n - l.t
