@@ -8,11 +8,11 @@
 - Each line of an edit is a comment, `file:`, `old:` or `new:`; an old text stands just once in its file, after the replacements before it, and the new
   one is another.
 
-With --refused it checks instead what the last `rt ci`, or `rt must-fail`, left under target/must-fail:
+With --refused LOG it checks instead what `rt ci` said, by the file LOG that has it:
 
-- Every edit of the tree, so every edit cited, has a log that is no older than the edit and says that the crate is not proved.
-- Each error in it is one of a declaration in a proof, and none is about a name: an edit that does not parse, that a definition or a contract
-  cannot be read with, or that leaves a proof without a need, a module, a field or another name that it cites, shows nothing of a fact.
+- Every edit of the tree, so every edit cited, was tried and refused.
+- None was refused only because a proof cites a name that the edit took away, or only by a limit of the prover: neither shows anything of a fact. That an edit
+  does not parse, or that a definition or a contract cannot be read with it, `rt ci` says itself: such an edit is bad, and not refused.
 
 What it cannot see is whether the fact that fails is the one that the page cites the edit for. How many edits the page does not cite is printed, and no fault.
 """
@@ -23,7 +23,7 @@ from pathlib import Path
 ROOT = Path(__file__).resolve().parent.parent
 CRATES = ROOT / 'crates'
 PAGE = ROOT / 'docs' / 'PROMISES.md'
-WORD = r'[\w·′\-]'
+WORD = r"[\w'\-]"
 faults = []
 
 
@@ -31,58 +31,34 @@ def fault(number, text):
     faults.append(f'{PAGE.relative_to(ROOT)}:{number}: {text}')
 
 
-# ---- the logs of the edits
-
-# how the prover begins an error of a declaration, and how it says that a name is missing
-DECLARATION = r'`[^`]+`: '
-NO_NAME = r'that can be named from here|is not in scope|has no field|is not a field of'
+# ---- what `rt ci` said of the edits
 
 
-def no_fact(where, message):
-    """Why an error shows nothing of a fact, or None where it is a failed proof."""
-    if re.search(NO_NAME, message):
-        return 'a name is missing'
-    if not re.match(DECLARATION, message):
-        return 'this is no error of a declaration'
-    if not where.startswith('proofs/'):
-        return 'the text itself does not check'
+def not_refused(said):
+    """Why what was said of an edit shows nothing of a fact, or None where it does."""
+    if said is None:
+        return 'it was not tried'
+    if not said.startswith('refused, as it must be'):
+        return said[:200]
+    if said.startswith('refused, as it must be (only '):
+        return said.removeprefix('refused, as it must be ')[:200]
     return None
 
 
-def check_log(edit, log):
-    """The faults of one edit's log."""
-    if not log.is_file():
-        return ['it has no log']
-    if log.stat().st_mtime < edit.stat().st_mtime:
-        return ['its log is older than the edit']
-    text = log.read_text()
-    if not re.search(r'^logic=not-proved', text, re.MULTILINE):
-        return ['its log shows no refusal']
-    found = []
-    for line in text.splitlines():
-        error = re.match(rf'.*?/{log.parent.name}/((?:src|specs|proofs)/\S+?:\d+:\d+): error: (.*)', line)
-        reason = no_fact(*error.groups()) if error else None
-        if reason:
-            found.append(f'{reason}: {error[1]}: {error[2][:120]}')
-    return found[:1]
-
-
-def check_refusals():
-    logs = ROOT / 'target' / 'must-fail'
+def check_refusals(log):
+    said = dict(re.findall(r'^rt: must-fail (\w+/[^\s:]+)\.edit: (.*)', Path(log).read_text(errors='replace'), re.MULTILINE))
     edits = sorted(CRATES.glob('*/must-fail/*.edit'))
     cited = {file_of(token) for token in re.findall(r'`([^`]+)`', PAGE.read_text())}
-    if not logs.is_dir():
-        faults.append('target/must-fail: there is no such folder; `rt ci` writes it')
-    else:
-        for edit in edits:
-            log = logs / edit.parent.parent.name / edit.stem / '.log'
-            faults.extend(f'{edit.relative_to(ROOT)}: {text}' for text in check_log(edit, log))
+    for edit in edits:
+        reason = not_refused(said.get(f'{edit.parent.parent.name}/{edit.stem}'))
+        if reason:
+            faults.append(f'{edit.relative_to(ROOT)}: {reason}')
     if not edits:
         faults.append('crates: no edit')
     for line in faults:
         print(line)
     missing = sum(edit not in cited for edit in edits)
-    print(f'target/must-fail: {len(edits)} edits, {len(edits) - missing} of them cited in docs/PROMISES.md, {missing} not, {len(faults)} faults')
+    print(f'wrong edits: {len(edits)}, {len(edits) - missing} of them cited in docs/PROMISES.md, {missing} not, {len(faults)} faults')
 
 
 # ---- the texts of the edits
@@ -91,10 +67,10 @@ def check_refusals():
 def check_edit(edit):
     """The faults of one edit's text: what `rt` would find after all crates are proved."""
     lines = [line for line in edit.read_text().splitlines() if not line.startswith('#')]
-    if any(not re.match(r'(file|old|new): ', line) for line in lines):
+    if any(not re.match(r'(file|old|new):( |$)', line) for line in lines):
         return ['a line is no comment, `file:`, `old:` or `new:`']
     text, old = '', None
-    for word, part in (line.split(': ', 1) for line in lines):
+    for word, part in ((line.partition(':')[0], line.partition(':')[2][1:]) for line in lines):
         if word == 'file':
             source = edit.parent.parent / part
             text = source.read_text() if source.is_file() else ''
@@ -120,7 +96,12 @@ def check_edits():
 def texts():
     """The text of each file under crates/ that may hold a name."""
     files = [f for part in ('src', 'specs', 'proofs') for f in CRATES.glob(f'*/{part}/**/*') if f.is_file()]
-    return {f: f.read_text() for f in files if f.suffix in ('.rt', '.antt')}
+    return {f: in_one_line(f.read_text()) for f in files if f.suffix in ('.rt', '.antt')}
+
+
+def in_one_line(source):
+    """The text with each `use` item in one line."""
+    return re.sub(r'^(?:ghost )?use [^\s{;]+\{[^}]*\}', lambda use: ' '.join(use[0].split()), source, flags=re.MULTILINE)
 
 
 def defined_in_rt(source):
@@ -146,16 +127,22 @@ def defined_in_antt(source):
     return names
 
 
+def is_own(module):
+    """Whether a module is of a crate of this repository."""
+    root, _, rest = module.partition('.')
+    return root == 'Rattle' and (CRATES / rest.partition('.')[0]).is_dir()
+
+
 class Defined:
     """The names that each file defines, and those that some file takes from a library."""
 
     def __init__(self, sources):
         self.of = {f: (defined_in_rt if f.suffix == '.rt' else defined_in_antt)(source) for f, source in sources.items()}
-        uses = [use for source in sources.values() for use in re.findall(r'^use (?!Rattle·)\S+\.\{(.*)\}', source, re.MULTILINE)]
-        self.library = {name.strip() for use in uses for name in use.split(',')}
+        uses = [use for source in sources.values() for use in re.findall(r'^(?:ghost )?use ([\w.]+)\.\{(.*)\}', source, re.MULTILINE)]
+        self.library = {name.strip() for module, names in uses if not is_own(module) for name in names.split(',')}
 
     def anywhere(self, name):
-        return name in self.library or f'_{name}_' in self.library or any(name in names for names in self.of.values())
+        return name in self.library or f'◌{name}◌' in self.library or any(name in names for names in self.of.values())
 
 
 def file_of(token):
@@ -207,7 +194,7 @@ class Specs:
         self.used[file], self.alias[file] = {}, {}
         at = None
         for line in source.splitlines():
-            use = re.match(r'use Rattle·(\w+?)(?:·specs)?\.(?:specs\.)?(\w+)(?:\.\{(.*)\})?(?: as (\w+))?$', line)
+            use = re.match(r'use Rattle\.(\w+)\.specs\.(\w+)(?:\.\{(.*)\})?(?: as (\w+))?$', line)
             if use:
                 target = f'{use[1]}/specs/{use[2]}.antt'
                 self.used[file].update({name.strip(): target for name in (use[3] or '').split(',')})
@@ -222,17 +209,17 @@ class Specs:
                 self.text[at] = ''
             if at:
                 self.text[at] += line.split('--')[0] + '\n'
-                constructors = re.match(r'  (\w[\w\- ]*?) :', line)
+                constructors = re.match(r"  (\w[\w'\- ]*?) :", line)
                 if constructors and self.text[at].startswith('pub data'):
                     self.home.update({(file, name): at for name in constructors[1].split()})
 
     def defined(self, file, name):
-        return next(((file, n) for n in (name, f'_{name}_') if (file, n) in self.text), self.home.get((file, name)))
+        return next(((file, n) for n in (name, f'◌{name}◌') if (file, n) in self.text), self.home.get((file, name)))
 
     def names_in(self, key):
         file = key[0]
         for name in set(re.findall(f'{WORD}+', self.text[key])):
-            for n in (name, f'_{name}_'):
+            for n in (name, f'◌{name}◌'):
                 found = self.defined(file, n) or self.defined(self.used[file].get(n), n)
                 if found:
                     yield found
@@ -314,10 +301,10 @@ def check_page():
 
 
 def main():
-    if sys.argv[1:] not in ([], ['--refused']):
-        sys.exit('usage: promises_check.py [--refused]')
+    if sys.argv[1:] and (sys.argv[1] != '--refused' or len(sys.argv) != 3):
+        sys.exit('usage: promises_check.py [--refused LOG]')
     if sys.argv[1:]:
-        check_refusals()
+        check_refusals(sys.argv[2])
     else:
         check_edits()
         check_page()

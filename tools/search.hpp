@@ -1,5 +1,5 @@
 /*
- * The search that tools/compare and tools/unproved time: depth first, the first open slot, its lowest type. At a live node it marks and assigns; at a
+ * The search that tools/compare and tools/trees time: depth first, the first open slot, its lowest type. At a live node it marks and assigns; at a
  * dead one, or at a solution, it goes back and removes what it had assigned, so it goes on from one solution to the next; when all is searched it starts
  * again from the root. A node is one decision. The root has a mark of its own, so a search ends with the masks that it began with.
  *

@@ -3,14 +3,15 @@
 
 usage: tools/unused_imports.py [CRATE ..]
 It reads words and no grammar: a name counts as used wherever it stands in the file but in comments and on `use` lines, an operator wherever its parts do.
-A name that is brought under another one (`as`) is not looked at.
+A name that is brought under another one (`as`) is not looked at. It proves nothing and reads a .rt file too; in a proved crate `rt tidy` drops what the check
+itself finds unused in the .antt files.
 """
 import re
 import sys
 from pathlib import Path
 
 CRATES = Path(__file__).resolve().parent.parent / 'crates'
-WORD = r"[\w·′\-≡≢≤<>∣⁺⇒]"
+WORD = r"[\w'\-≡≢≤<>∣⁺⇒]"
 
 
 def unused(path):
@@ -21,8 +22,8 @@ def unused(path):
     body = re.sub(comment, '', re.sub(r'^(?:ghost )?use .*', '', uses.sub('', text), flags=re.M), flags=re.M)
 
     def used(name):
-        if '_' in (name[0], name[-1]):
-            return all(part in body for part in name.split('_') if part)
+        if '◌' in name:
+            return all(part in body for part in name.split('◌') if part)
         return re.search(rf'(?<!{WORD}){re.escape(name)}(?!{WORD})', body)
 
     for module, names in uses.findall(text):
@@ -36,7 +37,8 @@ def main():
     crates = sys.argv[1:] or sorted(f.name for f in CRATES.iterdir())
     found = 0
     for crate in crates:
-        for path in sorted(f for f in (CRATES / crate).rglob('*') if f.suffix in ('.antt', '.rt')):
+        files = (f for part in ('src', 'specs', 'proofs') for f in (CRATES / crate / part).rglob('*'))
+        for path in sorted(f for f in files if f.suffix in ('.antt', '.rt')):
             for module, names in unused(path):
                 print(f'{path.relative_to(CRATES)}: {module}: {", ".join(names)}')
                 found += 1

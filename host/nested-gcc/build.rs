@@ -15,7 +15,7 @@ fn main() {
     println!("cargo:rerun-if-changed={}", archive.display());
     if !archive.is_file() {
         eprintln!("there is no {}", archive.display());
-        eprintln!("build it by `rt staticlib nested_gcc` at the root of the repository,");
+        eprintln!("build it by `tools/archive` at the root of the repository,");
         eprintln!("or set NESTED_GCC_LIB_DIR to the folder that has libnested_gcc.a (an absolute path)");
         exit(1);
     }

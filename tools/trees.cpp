@@ -1,7 +1,7 @@
 /*
- * Times sessions that were compiled without a proof against the engine `walls` of a comparison bench; tools/unproved
- * builds and runs it: unproved scripts FOLDER ROUNDS NAME.., or unproved search FOLDER ROUNDS NAME.. Of a script, a run
- * of the whole less one of no calls, over its decisions, is all-in. Of the search of tools/search.hpp, 10,000 nodes by
+ * Times the sessions of several trees' archives against the engine `walls` of a comparison bench; tools/trees builds
+ * and runs it: trees scripts FOLDER ROUNDS NAME.., or trees search FOLDER ROUNDS NAME.. Of a script, a run of the
+ * whole less one of no calls, over its decisions, is all-in. Of the search of tools/search.hpp, 10,000 nodes by
  * single calls on a kept session are taken, over their number. Each figure is the least of the rounds, in which the
  * contenders take turns. A session that answers otherwise than expected, or otherwise than `walls` in the search, ends
  * the program with status 1.
@@ -9,16 +9,11 @@
 #include "search.hpp"
 #include <cmath>
 
-struct Slice {
-    const void *first;
-    size_t count;
-};
-
-using Session = u32(Slice *, Slice *, Slice *, Slice *);
-using Open = u32(Slice *, Slice *, Slice *, Slice *, Slice *, Slice *);
+using Session = u32(const u8 *, size_t, const u8 *, size_t, u8 *, size_t, u8 *, size_t);
+using Open = u32(const u8 *, size_t, u32 *, size_t, u16 *, size_t, u8 *, size_t, u16 *, size_t, size_t *, size_t);
 using Make = Ans(u32, u32, u32, u32 *, size_t, u16 *, size_t, u8 *, size_t, u16 *, size_t, size_t *, size_t);
 
-#define TREE(number, name) extern "C" Session session_##number; extern "C" Open open_##number; extern "C" Make call_##number;
+#define TREE(number, name) extern "C" Session session_##number; extern "C" Open open_in_##number; extern "C" Make call_in_##number;
 #include "trees.inc"
 #undef TREE
 
@@ -30,7 +25,7 @@ struct Tree {
 };
 
 static const Tree trees[] = {
-#define TREE(number, name) { name, session_##number, open_##number, call_##number },
+#define TREE(number, name) { name, session_##number, open_in_##number, call_in_##number },
 #include "trees.inc"
 #undef TREE
 };
@@ -67,9 +62,8 @@ struct Runner {
             run_calls(*walls, in.script.data(), calls, out.data());
             return;
         }
-        Slice book{ in.book.data(), in.book.size() }, list{ in.calls.data(), 4 * calls };
-        Slice words{ answers.data(), answers.size() }, last{ masks.data(), masks.size() };
-        trees[contender].session(&book, &list, &words, &last);
+        trees[contender].session(in.book.data(), in.book.size(), in.calls.data(), 4 * calls, answers.data(), answers.size(),
+                                 masks.data(), masks.size());
     }
     bool right(size_t contender) {
         if (contender == TREES) return true;
@@ -92,8 +86,7 @@ struct Kept {
     size_t record[7];
     Make *make;
     Kept(const Tree &tree, const std::vector<u8> &book) : make(tree.call) {
-        Slice slices[] = { { book.data(), book.size() }, { masks, 256 }, { cells, 16528 }, { trail, 25088 }, { heights, 256 }, { record, 7 } };
-        tree.open(slices, slices + 1, slices + 2, slices + 3, slices + 4, slices + 5);
+        tree.open(book.data(), book.size(), masks, 256, cells, 16528, trail, 25088, heights, 256, record, 7);
     }
     Ans call(u8 kind, u8 type, u16 slot) {
         return make(kind, type, slot, masks, 256, cells, 16528, trail, 25088, heights, 256, record, 7);
