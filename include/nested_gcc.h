@@ -1,6 +1,6 @@
 /*
  * nested_gcc.h: the proved filter of order books, for C99 and C++ on x86-64 Linux.
- * Link with libnested_gcc.a, which `rt staticlib nested_gcc` builds.
+ * Link with libnested_gcc.a, which tools/archive builds.
  *
  * docs/SPECIFICATION.md has the rules in full: 1 Words and numbers, 2 The book, 3 Closing,
  * 4 Settling and plans, 5 The session, 6 Walls, 7 Entries, 8 Refusals, 9 Worked examples, 10 The program planrun,
