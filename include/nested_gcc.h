@@ -217,7 +217,7 @@ uint32_t nested_gcc_close(const uint8_t *book, size_t book_len,
  *     is not touched.
  * Bytes past the n elements stay as they are.
  *
- * Stack: 93 KiB on a good book, and up to 528 bytes for each strike that is nested in another. The most of 1000
+ * Stack: 93 KiB on a good book, and up to 672 bytes for each strike that is nested in another. The most of 1000
  * random books of 256 slots was 119 KiB. The deepest nesting found, a chain of 254 strikes, needs 224 KiB in all;
  * 320 KiB is what the test holds. A strike takes a type out of a mask before it goes deeper, so no book nests more
  * than 8192 of them: 6 MiB suffices for every book.
@@ -289,7 +289,7 @@ uint32_t nested_gcc_settle(const uint8_t *book, size_t book_len, uint8_t *masks,
  *     is good.
  * Bytes past the elements written stay as they are.
  *
- * Stack: 126 KiB on a good book, and as for nested_gcc_settle up to 528 bytes for each strike that is nested in
+ * Stack: 126 KiB on a good book, and as for nested_gcc_settle up to 672 bytes for each strike that is nested in
  * another. The most of 1000 random books of 256 slots with lists of decisions was 152 KiB. The deepest nesting found
  * needs 257 KiB in all; 512 KiB is what the test holds, and 6 MiB suffices for every book and list.
  */
@@ -318,7 +318,7 @@ uint32_t nested_gcc_session(const uint8_t *book, size_t book_len,
  *     refused call refuses the whole list. The output is not touched. A list without calls is good.
  * Bytes past one a call stay as they are.
  *
- * Stack: 93 KiB on a good book, and as for nested_gcc_settle up to 528 bytes for each strike that is nested in another.
+ * Stack: 93 KiB on a good book, and as for nested_gcc_settle up to 672 bytes for each strike that is nested in another.
  * The most of 1000 random books of 256 slots with lists of assigns was 119 KiB. The deepest nesting found needs 224 KiB
  * in all; 320 KiB is what the test holds, and 6 MiB suffices for every book and list.
  */
@@ -418,7 +418,7 @@ nested_gcc_words nested_gcc_call_in(uint32_t kind, uint32_t type, uint32_t slot,
  *     or call may follow.
  * Masks past the n-th stay as they are.
  *
- * Stack: 36 KiB on a good book, and as for nested_gcc_settle up to 528 bytes for each strike that is nested in
+ * Stack: 36 KiB on a good book, and as for nested_gcc_settle up to 672 bytes for each strike that is nested in
  * another. The most of 1000 random books of 256 slots was 61 KiB. The deepest nesting found needs 167 KiB in all; 256
  * KiB is what the test holds, and 6 MiB suffices for every book.
  */
@@ -444,7 +444,7 @@ static inline uint32_t nested_gcc_open(const uint8_t *book, size_t book_len, nes
  *     Neither state nor answers are touched. A list without calls is good: it says how the session stands.
  * Answers past two words a call, and masks past the n-th, stay as they are.
  *
- * Stack: 2 KiB, and as for nested_gcc_settle up to 528 bytes for each strike that is nested in another. The most of
+ * Stack: 2 KiB, and as for nested_gcc_settle up to 672 bytes for each strike that is nested in another. The most of
  * 1000 random books of 256 slots with lists of decisions was 13 KiB. The deepest nesting found needs 133 KiB in all;
  * 256 KiB is what the test holds, and 6 MiB suffices for every book and list.
  */
