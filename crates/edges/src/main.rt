@@ -4,22 +4,36 @@
 // A line is a name and a colon, which are printed, and then words with numbers after them, parted by single spaces. A line that begins with # is none.
 #![tactic(auto)]
 
+ghost use Rattle.std.specs.Prelude.{◌≤◌, length};
+
 mod answers; // answers.rt: words that run an entry and print its answer
 
 use answers::run_answers;
 use edge_cases::{begins_line, build, colon_at, line_at, show_name};
 use std::io;
-use std::io::{BufWriter, Read, Write};
+use std::io::{Read, Write};
 
 // The most bytes of the cases that are read.
-const TEXT_BYTES: u64 = 32_768;
+const TEXT_BYTES: usize = 32_768;
 
 fn main(rt: HostRuntime) -> io::Result<()> {
-    let mut text = Vec::new(rt.alloc());
-    rt.reader().take(TEXT_BYTES).read_to_end(&mut text)?;
-    let mut out = BufWriter::new(rt.alloc(), io::writer(&rt))?;
-    run_lines(&mut out, &text)?;
-    out.flush()
+    let mut text = [0u8; TEXT_BYTES];
+    let end = read_full(&mut rt.reader(), &mut text);
+    run_lines(&mut io::writer(&rt), &text[..end])
+}
+
+// Reads until buf is full, the input ends or a read fails: each turn but the last reads a byte at least. How many bytes were read.
+fn read_full(input: &mut impl Read, buf: &mut [u8]) -> usize
+    ensures { result ≤ length buf.new }
+{
+    let mut filled = 0;
+    for _ in 0..buf.len() {
+        match input.read(&mut buf[filled..]) {
+            Ok(0) | Err(_) => break,
+            Ok(count) => filled += count,
+        }
+    }
+    filled
 }
 
 // Runs each line.
