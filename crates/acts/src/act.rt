@@ -15,14 +15,12 @@ pub fn mark(heights: &mut [u16], session: Session) -> Stepped
     ensures { (masks cells trail : List ℕ) (n k i : ℕ) → Acts n k i Calls.mark session
         masks cells trail heights.old masks cells trail heights.new result }
 {
-    let top = session.top;
     let marks = session.marks;
-    heights[marks] = top as u16;
+    heights[marks] = session.top as u16;
     let marked = Session {
         standing: Standing::Live,
-        top,
         marks: marks + 1,
-        idle: session.idle,
+        ..session
     };
     Stepped {
         session: marked,
@@ -54,7 +52,7 @@ pub fn back(
         standing: Standing::Live, // dead becomes live
         top: from,
         marks,
-        idle: session.idle,
+        ..session
     };
     Stepped {
         session: live,

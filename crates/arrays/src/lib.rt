@@ -1,109 +1,196 @@
-// Tables, lists of masks and the pile of saved masks as arrays of fixed length, and sums that stay within their range: for the plain filter and the
-// random books of the tests. The contracts say nothing, so it is proved to be safe and to end, and no more. Nothing is refused: what lies outside an
-// array reads as 0, and a store there does nothing.
+// The sizes, rows, tables, lists of masks and the pile of saved masks of small books, of fixed length: for the plain filter and the random books of
+// the tests. The contracts say nothing, so it is proved to be safe and to end, and no more. Nothing is refused but a mark more than the pile holds:
+// what lies outside a table or a list reads as 0, and a store there does nothing.
 #![tactic(auto)]
 
-// 256 numbers.
-pub type Numbers = [usize; 256];
-// A table of bounds: for each of 8 types and each end from 0 to 31 an entry, at `cell`.
-pub type Table = Numbers;
-// 64 rows of four numbers each: type, end, lower, upper.
-pub type Rows = Numbers;
-// The masks of 32 slots.
-pub type Masks = [u32; 32];
-// The masks of 256 marks.
-pub type Pile = [u32; 8192];
+ghost use Rattle.std.specs.Prelude.{◌≤◌};
 
-// The entries of a table.
-pub const CELLS: usize = 256;
+// The types of a table.
+pub const TYPES: usize = 8;
 // The ends of one type, 0 to 31.
 pub const ENDS: usize = 32;
+// The slots of a list of masks.
+pub const SLOTS: usize = 32;
+// The most rows.
+const ROWS: usize = 64;
 // The most marks that may be open.
-pub const MARKS: usize = 256;
+const MARKS: usize = 256;
 
-// Where a table has its entry for type v at end t; out of range where it has none.
-pub fn cell(v: usize, t: usize) -> usize {
-    if 8 <= v {
-        return CELLS;
-    }
-    if ENDS <= t {
-        return CELLS;
-    }
-    v * ENDS + t
+// A book's counts of slots and types.
+#[derive(Clone, Copy)]
+pub struct Size {
+    pub slots: usize,
+    pub types: usize,
 }
 
-// Number p.
-pub fn entry(numbers: &Numbers, p: usize) -> usize {
-    if p < 256 {
-        return numbers[p];
+impl Size {
+    // How many of the book's types a table has.
+    pub fn table_types(self) -> usize {
+        self.types.min(TYPES)
     }
-    0
-}
 
-// Sets number p.
-pub fn set_entry(numbers: &mut Numbers, p: usize, x: usize) {
-    if p < 256 {
-        numbers[p] = x;
+    // How many of the book's ends, from 0 to the number of slots, a table has.
+    pub fn table_ends(self) -> usize {
+        self.slots.saturating_add(1).min(ENDS)
     }
 }
 
-// Number i of a row.
-pub fn field(rows: &Rows, row: usize, i: usize) -> usize {
-    if row < 64 {
-        return entry(rows, plus(row * 4, i));
-    }
-    0
+// A row of a book: from lower to upper slots before the end have the type.
+#[derive(Clone, Copy)]
+pub struct Row {
+    pub board_type: usize,
+    pub end: usize,
+    pub lower: usize,
+    pub upper: usize,
 }
 
-// The mask of a slot.
-pub fn mask(masks: &Masks, slot: usize) -> u32 {
-    if slot < 32 {
-        return masks[slot];
-    }
-    0
+// At most 64 rows.
+#[derive(Clone, Copy)]
+pub struct Rows {
+    rows: [Row; ROWS],
+    count: usize,
+    ghost within: { count ≤ 64 },
 }
 
-// Sets the mask of a slot.
-pub fn set_mask(masks: &mut Masks, slot: usize, x: u32) {
-    if slot < 32 {
-        masks[slot] = x;
+impl Rows {
+    // No rows.
+    pub fn new() -> Rows {
+        let empty = Row {
+            board_type: 0,
+            end: 0,
+            lower: 0,
+            upper: 0,
+        };
+        Rows {
+            rows: [empty; ROWS],
+            count: 0,
+        }
+    }
+
+    // Adds a row; where there is no room, it does nothing.
+    pub fn push(&mut self, row: Row) {
+        if self.count < ROWS {
+            self.rows[self.count] = row;
+            self.count += 1;
+        }
+    }
+
+    pub fn as_slice(&self) -> &[Row] {
+        &self.rows[..self.count]
     }
 }
 
-// Where the pile has the mask of a slot that a mark saved; out of range where it has none.
-fn place(mark: usize, slot: usize) -> usize {
-    if MARKS <= mark {
-        return 8192;
-    }
-    if 32 <= slot {
-        return 8192;
-    }
-    mark * 32 + slot
+// For each of 8 types and each end from 0 to 31 an entry. Type and end are two parameters and no struct: the rules step the end alone.
+#[derive(Clone, Copy)]
+pub struct Table {
+    entries: [[usize; ENDS]; TYPES],
 }
 
-// The mask of a slot that a mark saved.
-pub fn saved(pile: &Pile, mark: usize, slot: usize) -> u32 {
-    let p = place(mark, slot);
-    if p < 8192 {
-        return pile[p];
+impl Table {
+    pub fn zeros() -> Table {
+        Table {
+            entries: [[0; ENDS]; TYPES],
+        }
     }
-    0
+
+    // The entry of type v at end t. The index is tested here, and not by get, since must-fail/one_number_short.edit is about this test.
+    pub fn entry(&self, v: usize, t: usize) -> usize {
+        if v < TYPES && t < ENDS {
+            self.entries[v][t]
+        } else {
+            0
+        }
+    }
+
+    // Sets the entry of type v at end t.
+    pub fn set_entry(&mut self, v: usize, t: usize, x: usize) {
+        if v < TYPES && t < ENDS {
+            self.entries[v][t] = x;
+        }
+    }
 }
 
-// Sets the mask of a slot that a mark saves.
-pub fn save(pile: &mut Pile, mark: usize, slot: usize, x: u32) {
-    let p = place(mark, slot);
-    if p < 8192 {
-        pile[p] = x;
+// The masks of 32 slots.
+#[derive(Clone, Copy)]
+pub struct Masks {
+    masks: [u32; SLOTS],
+}
+
+impl Masks {
+    // Masks without a type.
+    pub fn zeros() -> Masks {
+        Masks { masks: [0; SLOTS] }
+    }
+
+    // The mask of a slot.
+    pub fn mask(&self, slot: usize) -> u32 {
+        self.masks.get(slot).copied().unwrap_or(0)
+    }
+
+    // Sets the mask of a slot.
+    pub fn set_mask(&mut self, slot: usize, x: u32) {
+        if let Some(mask) = self.masks.get_mut(slot) {
+            *mask = x;
+        }
+    }
+
+    // How many of the first n slots have a mask that passes the test.
+    pub fn count<F: Fn(u32) -> bool>(&self, n: usize, test: F) -> usize
+        requires { F.IsAlwaysCallable test }
+    {
+        self.masks
+            .iter()
+            .take(n)
+            .filter(|mask| test(**mask))
+            .count()
+    }
+
+    // The ones in the masks of n slots.
+    pub fn ones(&self, n: usize) -> usize {
+        self.masks.iter().take(n).fold(0usize, |sum, mask| {
+            sum.saturating_add(mask.count_ones() as usize)
+        })
+    }
+}
+
+// The pile has no room for a mark.
+#[derive(Debug, Clone, Copy, PartialEq, Eq)]
+pub struct Full;
+
+// The masks that each open mark saved, at most 256 of them.
+#[derive(Clone, Copy)]
+pub struct Pile {
+    saved: [Masks; MARKS],
+    open: usize,
+}
+
+impl Pile {
+    // No mark is open.
+    pub fn new() -> Pile {
+        Pile {
+            saved: [Masks::zeros(); MARKS],
+            open: 0,
+        }
+    }
+
+    // Puts masks on the pile.
+    pub fn push(&mut self, masks: Masks) -> Result<(), Full> {
+        let free = self.saved.get_mut(self.open).ok_or(Full)?;
+        *free = masks;
+        self.open += 1;
+        Ok(())
+    }
+
+    // Takes the latest masks from the pile.
+    pub fn pop(&mut self) -> Option<Masks> {
+        self.open = self.open.checked_sub(1)?;
+        self.saved.get(self.open).copied()
     }
 }
 
 // The mask of type v alone.
 pub fn alone(v: usize) -> u32 {
-    if v < 32 {
-        return 1 << v;
-    }
-    0
+    if v < 32 { 1 << v } else { 0 }
 }
 
 // Whether type v is in the mask.
@@ -114,53 +201,4 @@ pub fn has(mask: u32, v: usize) -> bool {
 // Whether v is the mask's only type.
 pub fn fixed(mask: u32, v: usize) -> bool {
     mask == alone(v)
-}
-
-// The ones in the masks of n slots.
-pub fn ones(n: usize, masks: &Masks) -> usize {
-    let mut sum = 0;
-    for slot in 0..n {
-        sum = plus(sum, wide(u32::count_ones(mask(masks, slot))));
-    }
-    sum
-}
-
-// The same number as an index.
-pub fn wide(x: u32) -> usize {
-    x as usize
-}
-
-// The same number as a word of 32 bits, cut to them.
-pub fn narrow(x: usize) -> u32 {
-    (x % 4294967296) as u32
-}
-
-// a + b, or the greatest number where that is less.
-pub fn plus(a: usize, b: usize) -> usize {
-    if b <= usize::MAX - a {
-        return a + b;
-    }
-    usize::MAX
-}
-
-// a - b, or 0 where b is the greater.
-pub fn less(a: usize, b: usize) -> usize {
-    if b <= a {
-        return a - b;
-    }
-    0
-}
-
-pub fn greater(a: usize, b: usize) -> usize {
-    if a < b {
-        return b;
-    }
-    a
-}
-
-pub fn smaller(a: usize, b: usize) -> usize {
-    if b < a {
-        return b;
-    }
-    a
 }

@@ -17,19 +17,21 @@ use Rattle.bands.specs.Band.{SumsUpto, Rooms}
 pub sums_none : (n t : ℕ) (l : List ℕ) (e : Eight) → Eightfold (λ i. lane e i ≡ 0) → SumsUpto n t l 0 e
 sums_none n t l e zeros i i<8 = omega (arith, each (λ j. lane e j ≡ 0) zeros i i<8, column_sum_none n (t + i) (λ q. get_or l q 0))
 
-pub sums_more : (n t : ℕ) (l : List ℕ) (v p : ℕ) (e x e' : Eight) → SumsUpto n t l v e → p ≡ place n v t → Eightfold (λ i. lane x i ≡ get_or l (p + i) 0)
+pub sums_more : (n t : ℕ) (l : List ℕ) (v : ℕ) (e x e' : Eight) → SumsUpto n t l v e → Eightfold (λ i. lane x i ≡ get_or l (place n v t + i) 0)
     → Eightfold (λ i. lane e' i ≡ min 65535 (lane e i + lane x i)) → SumsUpto n t l (v + 1) e'
-sums_more n t l v p e x e' so_far p_is loaded summed i i<8 =
-    let here : p + i ≡ place n v (t + i) = omega (arith, p_is) in
-    let entry : lane x i ≡ get_or l (p + i) 0 = each (λ j. lane x j ≡ get_or l (p + j) 0) loaded i i<8 in
+sums_more n t l v e x e' so_far loaded summed i i<8 =
+    let here : place n v t + i ≡ place n v (t + i) = omega arith in
+    let entry : lane x i ≡ get_or l (place n v t + i) 0 = each (λ j. lane x j ≡ get_or l (place n v t + j) 0) loaded i i<8 in
     let entry' : lane x i ≡ get_or l (place n v (t + i)) 0 = rw here at entry in
     let added : lane e' i ≡ min 65535 (lane e i + lane x i) = each (λ j. lane e' j ≡ min 65535 (lane e j + lane x j)) summed i i<8 in
     let before : lane e i ≡ min 65535 (column_sum n v (λ q. get_or l q 0) (t + i)) = so_far i i<8 in
     omega (arith, entry', added, before, column_sum_next n (t + i) (λ q. get_or l q 0) v)
 
-pub rooms_made : (n k t : ℕ) (L U : List ℕ) (ends sl su over under both most wide bad above below : Eight) → t + 7 < 65535 → Eightfold (λ i. lane ends i ≡ t + i)
+pub rooms_made : (n k t : ℕ) (L U : List ℕ) (ends sl su over under both most wide bad above below : Eight) → t + 7 < 65535
+    → Eightfold (λ i. lane ends i ≡ t + i)
     → SumsUpto n t L k sl → SumsUpto n t U k su → Eightfold (λ i. lane over i ≡ lane sl i - lane ends i)
-    → Eightfold (λ i. lane under i ≡ lane ends i - lane su i) → Eightfold (λ i. lane both i ≡ min 65535 (lane over i + lane under i)) → Eightfold (λ i. lane most i ≡ 65534) → Eightfold (λ i. lane wide i ≡ lane su i - lane most i)
+    → Eightfold (λ i. lane under i ≡ lane ends i - lane su i) → Eightfold (λ i. lane both i ≡ min 65535 (lane over i + lane under i))
+    → Eightfold (λ i. lane most i ≡ 65534) → Eightfold (λ i. lane wide i ≡ lane su i - lane most i)
     → Eightfold (λ i. lane bad i ≡ min 65535 (lane both i + lane wide i)) → total bad ≡ 0 → Eightfold (λ i. lane above i ≡ lane su i - lane ends i)
     → Eightfold (λ i. lane below i ≡ lane ends i - lane sl i) → Rooms n k t above below (view L U)
 rooms_made n k t L U ends sl su over under both most wide bad above below t_fits ends_are lowers uppers overs unders boths mosts wides bads none aboves belows =

@@ -35,9 +35,18 @@ narrowed_made p L U L' U' above below a b gap low high x y e room_l room_u lower
     record {
       size_l = rw L'_is (length-sets L p (lanes low));
       size_u = rw U'_is (length-sets U p (lanes high));
-      lowers = λ i i<8. omega (arith, lower_here i i<8, (each (λ j. (lane low j ≡ lane a j + (lane b j - lane a j - lane above j)) × (lane low j < 65536)) lows i i<8).0, a_is i i<8, b_is i i<8);
-      fits = λ i i<8. omega (arith, lower_here i i<8, (each (λ j. (lane low j ≡ lane a j + (lane b j - lane a j - lane above j)) × (lane low j < 65536)) lows i i<8).1);
-      uppers = λ i i<8. omega (arith, upper_here i i<8, each (λ j. lane high j ≡ lane b j - (lane b j - lane a j - lane below j)) highs i i<8, a_is i i<8, b_is i i<8);
+      lowers = λ i i<8.
+          omega (
+            arith,
+            lower_here i i<8,
+            (each (λ j. (lane low j ≡ lane a j + (lane b j - lane a j - lane above j)) × (lane low j < 65536)) lows i i<8).0,
+            a_is i i<8,
+            b_is i i<8,
+          );
+      fits = λ i i<8.
+          omega (arith, lower_here i i<8, (each (λ j. (lane low j ≡ lane a j + (lane b j - lane a j - lane above j)) × (lane low j < 65536)) lows i i<8).1);
+      uppers = λ i i<8.
+          omega (arith, upper_here i i<8, each (λ j. lane high j ≡ lane b j - (lane b j - lane a j - lane below j)) highs i i<8, a_is i i<8, b_is i i<8);
       before = λ q q<p. (rw L'_is (sets_before (lanes low) L p q q<p), rw U'_is (sets_before (lanes high) U p q q<p));
       behind = λ q q≥p. (rw L'_is (sets_behind (lanes low) L p q q≥p), rw U'_is (sets_behind (lanes high) U p q q≥p));
       excesses = λ i i<8.
@@ -95,7 +104,8 @@ over_none e x y e_is first second = omega arith
 everywhere : (C : ℕ → Type 0) (p : ℕ) → ((q : ℕ) → q < p → C q) → ((i : ℕ) → i < 8 → C (p + i)) → ((q : ℕ) → p + 8 ≤ q → C q) → (q : ℕ) → C q
 everywhere C p before here behind q =
     dite (dec_lt q p) (before q)
-    (λ q≥p. dite (dec_lt q (p + 8)) (λ q<p+8. let at : p + (q - p) ≡ q = omega arith in subst C at (here (q - p) (omega arith))) (λ q≥p+8. behind q (omega arith)))
+    (λ q≥p. dite (dec_lt q (p + 8)) (λ q<p+8. let at : p + (q - p) ≡ q = omega arith in subst C at (here (q - p) (omega arith)))
+    (λ q≥p+8. behind q (omega arith)))
 
 module _ (n k t v p : ℕ) (above below e : Eight) (L₀ U₀ L U L' U' : List ℕ) (v<k : v < k) (t+7≤n : t + 7 ≤ n) (p_is : p ≡ place n v t)
     (since : Within (size n k) (view L₀ U₀) (view L U)) (rooms : Rooms n k t above below (view L₀ U₀)) (turn : Narrowed p above below L U L' U' e) where
@@ -120,7 +130,8 @@ module _ (n k t v p : ℕ) (above below e : Eight) (L₀ U₀ L U L' U' : List �
   upper_kept T rules within i i<8 =
       let q = place n v (t + i) in
       let was : get_or L₀ q 0 ≤ get_or L q 0 = since.lowers q (place_below n k v (t + i) v<k (omega arith)) in
-      let demand : T.upper q + column_sum n k (λ j. get_or L₀ j 0) (t + i) ≤ t + i + get_or L₀ q 0 = upper_demand n k (t + i) v v<k (omega arith) (view L₀ U₀) T (rules i i<8) within in
+      let demand : T.upper q + column_sum n k (λ j. get_or L₀ j 0) (t + i) ≤ t + i + get_or L₀ q 0 =
+      upper_demand n k (t + i) v v<k (omega arith) (view L₀ U₀) T (rules i i<8) within in
       let sum : column_sum n k (λ j. get_or L₀ j 0) (t + i) + lane below i ≡ t + i = rooms.lowers i i<8 in
       rw (at_place i) (λ upper≤b. omega (arith, demand, was, sum))
 
@@ -157,13 +168,17 @@ module _ (n k t v p : ℕ) (above below e : Eight) (L₀ U₀ L U L' U' : List �
   moved_none long_l long_u tight =
       total_all e
       (λ i i<8.
-      let lower = weigh_tight (λ x. 65536 - x) L L' turn.size_l (λ q. omega (arith, lowers_rise q)) (omega (arith, lighter, lower_weight)) (p + i) (omega (arith, inside i i<8)) in
+      let lower =
+      weigh_tight (λ x. 65536 - x) L L' turn.size_l (λ q. omega (arith, lowers_rise q)) (omega (arith, lighter, lower_weight))
+      (p + i) (omega (arith, inside i i<8)) in
       let upper = weigh_tight (λ x. x) U U' turn.size_u uppers_fall (omega (arith, lighter, lower_weight)) (p + i) (omega (arith, inside i i<8)) in
       let low : get_or L' (p + i) 0 ≡ get_or L (p + i) 0 + excess L U (p + i) (lane above i) = turn.lowers i i<8 in
       let high : get_or U' (p + i) 0 ≡ get_or U (p + i) 0 - excess L U (p + i) (lane below i) = turn.uppers i i<8 in
       let over : lane e i ≡ min 65535 (excess L U (p + i) (lane above i) + excess L U (p + i) (lane below i)) = turn.excesses i i<8 in
       let first = raised_none (get_or L (p + i) 0) (get_or L' (p + i) 0) (excess L U (p + i) (lane above i)) lower low (turn.fits i i<8) in
-      let second = lowered_none (get_or U (p + i) 0) (get_or U' (p + i) 0) (excess L U (p + i) (lane below i)) upper high (excess_le (get_or L (p + i) 0) (get_or U (p + i) 0) (lane below i)) in
+      let second =
+      lowered_none (get_or U (p + i) 0) (get_or U' (p + i) 0) (excess L U (p + i) (lane below i)) upper high
+      (excess_le (get_or L (p + i) 0) (get_or U (p + i) 0) (lane below i)) in
       over_none (lane e i) (excess L U (p + i) (lane above i)) (excess L U (p + i) (lane below i)) over first second)
 
   swept : size n k ≤ length L → size n k ≤ length U → (m : ℕ) → size n k ≤ m → Swept m (Band n k t) L U L' U' (ltb 0 (total e))
@@ -188,7 +203,9 @@ module _ (n k t v p : ℕ) (above below e : Eight) (L₀ U₀ L U L' U' : List �
         size_l = turn.size_l;
         size_u = turn.size_u;
         less = omega (arith, lighter, lower_weight);
-        moved = λ stored. dite (dec_lt (slack L' U') (slack L U)) (λ falls. falls) (λ stays. absurd (omega (arith, ltb-true 0 (total e) stored, moved_none long_l long_u (omega arith))));
+        moved = λ stored.
+            dite (dec_lt (slack L' U') (slack L U)) (λ falls. falls)
+            (λ stays. absurd (omega (arith, ltb-true 0 (total e) stored, moved_none long_l long_u (omega arith))));
         still = λ none.
             let empty : total e ≡ 0 = omega (arith, ltb-false 0 (total e) none) in
             (ext_get_or 0 L' L turn.size_l (λ q q<. (unmoved empty q).0), ext_get_or 0 U' U turn.size_u (λ q q<. (unmoved empty q).1));
@@ -204,6 +221,8 @@ module _ (n k t v p : ℕ) (above below e : Eight) (L₀ U₀ L U L' U' : List �
       let high : get_or U' (p + i) 0 ≡ get_or U (p + i) 0 = (unmoved empty (p + i)).1 in
       let upper_sum : column_sum n k (λ j. get_or U' j 0) (t + i) ≡ t + i + lane above i = here.uppers i i<8 in
       let lower_sum : column_sum n k (λ j. get_or L' j 0) (t + i) + lane below i ≡ t + i = here.lowers i i<8 in
-      let lower_rule : t + i + get_or U' (p + i) 0 ≤ get_or L' (p + i) 0 + column_sum n k (λ j. get_or U' j 0) (t + i) = omega (arith, low, high, upper_sum, (nothing empty i i<8).0) in
-      let upper_rule : get_or U' (p + i) 0 + column_sum n k (λ j. get_or L' j 0) (t + i) ≤ t + i + get_or L' (p + i) 0 = omega (arith, low, high, lower_sum, (nothing empty i i<8).1) in
+      let lower_rule : t + i + get_or U' (p + i) 0 ≤ get_or L' (p + i) 0 + column_sum n k (λ j. get_or U' j 0) (t + i) =
+      omega (arith, low, high, upper_sum, (nothing empty i i<8).0) in
+      let upper_rule : get_or U' (p + i) 0 + column_sum n k (λ j. get_or L' j 0) (t + i) ≤ t + i + get_or L' (p + i) 0 =
+      omega (arith, low, high, lower_sum, (nothing empty i i<8).1) in
       record { lower = rw (at_place i) at lower_rule; upper = rw (at_place i) at upper_rule })

@@ -6,13 +6,12 @@
 --   Narrowed           two lists after one value's gaps at eight places were made no wider than the rooms
 --   Answer             what `band` did, by its answer
 -- Assumes nothing.
-use Rattle.std.specs.Prelude.{◌≡◌, true, false, List, ℕ, ◌+◌, ◌-◌, ◌≤◌, ◌<◌, min, length, get_or}
+use Rattle.std.specs.Prelude.{◌≡◌, Bool, Result, Ok, Err, List, ℕ, ◌+◌, ◌-◌, ◌≤◌, ◌<◌, min, length, get_or}
 use Rattle.closing_model.specs.Table.{Table, size}
 use Rattle.closing_model.specs.Sweep.{column_sum, Across, Did}
 use Rattle.lanes.specs.declared.Eight.{Eight}
 use Rattle.lanes.specs.Lanes.{lane}
-use Rattle.bands.specs.declared.Banded.{Banded}
-use Rattle.bands.specs.declared.Banded.TheVariants.{Same, Changed, Unfit}
+use Rattle.bands.specs.declared.Unfit.{Unfit}
 
 abbrev pub Band : ℕ → ℕ → ℕ → Table → Type 0
 Band n k t T = (i : ℕ) → i < 8 → Across n k (t + i) T
@@ -45,7 +44,6 @@ pub record Narrowed (p : ℕ) (above below : Eight) (L U L' U' : List ℕ) (e : 
   pub behind : (q : ℕ) → p + 8 ≤ q → (get_or L' q 0 ≡ get_or L q 0) × (get_or U' q 0 ≡ get_or U q 0)
   pub excesses : (i : ℕ) → i < 8 → lane e i ≡ min 65535 (excess L U (p + i) (lane above i) + excess L U (p + i) (lane below i))
 
-abbrev pub Answer : ℕ → ℕ → ℕ → List ℕ → List ℕ → List ℕ → List ℕ → Banded → Type 0
-Answer n k t L U L' U' Same = Did (size n k) (Band n k t) L U L' U' false
-Answer n k t L U L' U' Changed = Did (size n k) (Band n k t) L U L' U' true
-Answer n k t L U L' U' Unfit = (L' ≡ L) × (U' ≡ U)
+abbrev pub Answer : ℕ → ℕ → ℕ → List ℕ → List ℕ → List ℕ → List ℕ → Result Bool Unfit → Type 0
+Answer n k t L U L' U' (Ok stored) = Did (size n k) (Band n k t) L U L' U' stored
+Answer n k t L U L' U' (Err unfit) = (L' ≡ L) × (U' ≡ U)

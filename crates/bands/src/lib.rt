@@ -9,35 +9,33 @@ ghost use Rattle.lanes.specs.Lanes.{lane, Eightfold};
 ghost use Rattle.bands.specs.Band.{Band, BandFits, Narrowed, Rooms, SumsUpto, Answer};
 
 use lanes::{Eight, any, less, load, numbers, same, store, sum};
-use stores::less16;
 
-// What a run of the rules did: nothing, or stored something; or that the sums do not fit this way, and nothing was done.
-#[derive(Clone, Copy)]
-pub enum Banded {
-    Same,
-    Changed,
-    Unfit,
-}
+// That the sums at eight prefixes are on the wrong side of them, or do not fit in 16 bits: nothing was done.
+#[derive(Clone, Copy, PartialEq, Eq, Debug)]
+pub struct Unfit;
 
-// The rules across the values at the prefixes from t to t + 7.
-pub fn band(lowers: &mut [u16], uppers: &mut [u16], n: usize, k: usize, t: usize) -> Banded
+// The rules across the values at the prefixes from t to t + 7, and whether they stored something.
+pub fn band(
+    lowers: &mut [u16],
+    uppers: &mut [u16],
+    n: usize,
+    k: usize,
+    t: usize,
+) -> Result<bool, Unfit>
     requires { BandFits n k t lowers.old uppers.old }
     ensures { Answer n k t lowers.old uppers.old lowers.new uppers.new result }
 {
     if 65527 < t {
-        return Banded::Unfit;
+        return Err(Unfit);
     }
     let ends = numbers(t);
     let sl = column_sums(lowers, n, k, t);
     let su = column_sums(uppers, n, k, t);
     let bad = sum(sum(less(sl, ends), less(ends, su)), less(su, same(65534)));
     if any(bad) {
-        return Banded::Unfit;
+        return Err(Unfit);
     }
-    if narrow_band(lowers, uppers, n, k, t, less(su, ends), less(ends, sl)) {
-        return Banded::Changed;
-    }
-    Banded::Same
+    Ok(narrow_band(lowers, uppers, n, k, t, less(su, ends), less(ends, sl)))
 }
 
 // The sums of a table's entries at the prefixes from t on; 65535 where a sum is more.
@@ -46,12 +44,8 @@ fn column_sums(table: &[u16], n: usize, k: usize, t: usize) -> Eight
     ensures { SumsUpto n t table.now k result }
 {
     let mut sums = same(0);
-    let mut v = 0;
-    let mut p = t;
-    while v < k {
-        sums = sum(sums, load(table, p));
-        p += n + 1;
-        v += 1;
+    for v in 0..k {
+        sums = sum(sums, load(table, v * (n + 1) + t));
     }
     sums
 }
@@ -71,12 +65,9 @@ fn narrow_band(
     ensures { Did (size n k) (Band n k t) lowers.old uppers.old lowers.new uppers.new result }
 {
     let mut moved = same(0);
-    let mut v = 0;
-    let mut p = t;
-    while v < k {
+    for v in 0..k {
+        let p = v * (n + 1) + t;
         moved = sum(moved, narrow(lowers, uppers, p, above, below));
-        p += n + 1;
-        v += 1;
     }
     any(moved)
 }
@@ -130,11 +121,11 @@ fn lowered(a: Eight, b: Eight, room: Eight) -> Eight
 fn raised16(a: u16, b: u16, room: u16) -> u16
     ensures { (result ≡ a + (b - a - room)) × (result < 65536) }
 {
-    a + less16(less16(b, a), room)
+    a + b.saturating_sub(a).saturating_sub(room)
 }
 
 fn lowered16(a: u16, b: u16, room: u16) -> u16
     ensures { result ≡ b - (b - a - room) }
 {
-    b - less16(less16(b, a), room)
+    b - b.saturating_sub(a).saturating_sub(room)
 }

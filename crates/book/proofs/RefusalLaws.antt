@@ -14,6 +14,8 @@ use lib.Dec.{eqb, ltb, leb, lit≤}
 use lib.Pow.{pow_pos}
 use lib.ListN.{length}
 use borrow.Author.Tests.{lt-ltb, le-ltb, le-leb, lt-leb, eq-eqb, ne_eqb, eqb-true, eqb-false, not-true, not-false}
+use Rattle.answer.specs.Answer as Answer
+use Rattle.answer.specs.declared.Refusal.{Refusal}
 use Rattle.book.specs.declared.Limits.{Limits}
 use Rattle.book.specs.declared.Row.{Row}
 use Rattle.book.specs.Layout.{slots, values, idle, row_count, mask_at, rows_part, row_at}
@@ -196,3 +198,16 @@ refusal_le_8 limits b =
     (or_else_le (mask_faults b) (row_faults b) 8
     (first_le (slots b) (mask_fault_at b) 8 (λ s. le_trans (mask_fault_le (values b) (mask_at b s)) (lit≤ tt)))
     (first_le (row_count b) (row_fault_at b) 8 (λ i. row_fault_le (slots b) (values b) (row_at (rows_part b) i))))
+
+-- ---- what a test says
+pub some_number : (e : Refusal) → Answer.number_of e ≡ 0 → ⊥
+some_number e = grind arith
+
+-- a refusal of the header, of a mask, or of a row is that of the book
+pub header_refuses : (limits : Limits) (b : List ℕ) (e : Refusal) → Answer.number_of e ≡ header_fault limits b
+    → Answer.number_of e ≡ refusal limits b
+header_refuses limits b e says = refusal_header limits b (Answer.number_of e) says (some_number e)
+
+pub masks_refuse : (limits : Limits) (b : List ℕ) (e : Refusal) → header_fault limits b ≡ 0 → Answer.number_of e ≡ mask_faults b
+    → Answer.number_of e ≡ refusal limits b
+masks_refuse limits b e none says = refusal_masks limits b (Answer.number_of e) none says (some_number e)

@@ -8,14 +8,14 @@
 --   header_fault, mask_fault, row_fault   the numbers 1 to 4, 5, and 6 to 8
 --   refusal limits b        the number that refuses b, 0 for a good book
 --   GoodBook limits b       b is a good book
---   number_of                document 01's number of each answer of the reader
+--   number_of                what a test says, as a number: 0 where it refuses nothing, else that of the refusal
 -- The limits (document 01: 256 slots, 32 types, 1024 rows) are a parameter.
 -- Assumes nothing.
-use Rattle.std.specs.Prelude.{◌≡◌, Bool, true, false, not, ◌&&◌, ◌||◌, List, ℕ, zero, suc, ◌+◌, ◌*◌, ◌^◌, eqb, ltb, leb, length}
+use Rattle.std.specs.Prelude.{◌≡◌, Bool, true, false, not, ◌&&◌, ◌||◌, List, ℕ, zero, suc, ◌+◌, ◌*◌, ◌^◌, eqb, ltb, leb, length, Result, Ok, Err}
+use Rattle.answer.specs.Answer as Answer
+use Rattle.answer.specs.declared.Refusal.{Refusal}
 use Rattle.book.specs.declared.Limits.{Limits}
 use Rattle.book.specs.declared.Row.{Row}
-use Rattle.book.specs.declared.Verdict.{Verdict}
-use Rattle.book.specs.declared.Verdict.TheVariants.{Good, TooShort, OutOfRange, UnknownIdle, WrongLayout, BadMask, BadRowValue, BadRowEnd, BadRowBound}
 use Rattle.book.specs.Layout.{slots, values, idle, row_count, masks_offset, rows_offset, book_length, mask_at, rows_part, row_at}
 
 infixr 20 ◌or_else◌
@@ -76,13 +76,6 @@ refusal limits b =
 abbrev pub GoodBook : Limits → List ℕ → Type 0
 GoodBook limits b = refusal limits b ≡ 0
 
-abbrev pub number_of : Verdict → ℕ
-number_of Good = 0
-number_of TooShort = 1
-number_of OutOfRange = 2
-number_of UnknownIdle = 3
-number_of WrongLayout = 4
-number_of BadMask = 5
-number_of BadRowValue = 6
-number_of BadRowEnd = 7
-number_of BadRowBound = 8
+abbrev pub number_of : Result Unit Refusal → ℕ
+number_of (Ok _) = 0
+number_of (Err refusal) = Answer.number_of refusal

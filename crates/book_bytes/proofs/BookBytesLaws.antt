@@ -8,6 +8,7 @@ use native.Mathlib.Omega.{arith}
 use lib.ListN.{length, get_or, drop, length-append}
 use lib.Seq.{ext_get_or, get_or-append-add, drop_at}
 use Rattle.elements.specs.Elements.{digits, bytes_of}
+use Rattle.elements.proofs.ElementsLaws.{length_bytes_of}
 use Rattle.book.specs.declared.Row.{Row}
 use Rattle.book.specs.Layout as Layout
 use Rattle.book.specs.Layout.{word16, word32, slots, values, row_count, masks_offset, rows_offset, book_length}
@@ -50,11 +51,6 @@ module _ (n k idle : ℕ) (ms : List ℕ) (rs : List Row) (fits : BookFits n ms 
   book_length_of_lem = word_digits (12 + 4 * n + 8 * length rs) fits.length
 
 -- ---- the masks
-bytes_of_length : (ms : List ℕ) → length (bytes_of 4 ms) ≡ 4 * length ms
-unfolding bytes_of
-bytes_of_length [] = refl
-bytes_of_length (m ∷ ms) = length-append (digits 4 m) (bytes_of 4 ms) ∙ omega (arith, bytes_of_length ms)
-
 append_at : (xs ys : List ℕ) (i : ℕ) {j : ℕ} → j ≡ length xs + i → get_or (xs ++ ys) j 0 ≡ get_or ys i 0
 append_at xs ys i is = ap (λ (j : ℕ). get_or (xs ++ ys) j 0) is ∙ get_or-append-add xs ys i 0
 
@@ -147,7 +143,7 @@ module _ (n k idle : ℕ) (ms : List ℕ) (rs : List Row) (fits : BookFits n ms 
       rw (slots_of_lem n k idle ms rs fits)
       (ap (drop (12 + 4 * n)) (sym (append_assoc (header_bytes n k idle (length rs)) (bytes_of 4 ms) (rows_bytes rs)))
       ∙ drop_at (header_bytes n k idle (length rs) ++ bytes_of 4 ms) (rows_bytes rs) (12 + 4 * n)
-      (length-append (header_bytes n k idle (length rs)) (bytes_of 4 ms) ∙ omega (arith, bytes_of_length ms, fits.slots)))
+      (length-append (header_bytes n k idle (length rs)) (bytes_of 4 ms) ∙ omega (arith, length_bytes_of 4 ms, fits.slots)))
 
   pub rows_of_lem : rows (book_bytes n k idle ms rs) ≡ rs
   rows_of_lem =
@@ -163,4 +159,4 @@ module _ (n k idle : ℕ) (ms : List ℕ) (rs : List Row) (fits : BookFits n ms 
   pub length_of : length (book_bytes n k idle ms rs) ≡ 12 + 4 * n + 8 * length rs
   length_of =
       length-append (header_bytes n k idle (length rs)) (bytes_of 4 ms ++ rows_bytes rs)
-      ∙ ap (λ (x : ℕ). 12 + x) (length-append (bytes_of 4 ms) (rows_bytes rs)) ∙ omega (arith, bytes_of_length ms, rows_bytes_length rs, fits.slots)
+      ∙ ap (λ (x : ℕ). 12 + x) (length-append (bytes_of 4 ms) (rows_bytes rs)) ∙ omega (arith, length_bytes_of 4 ms, rows_bytes_length rs, fits.slots)

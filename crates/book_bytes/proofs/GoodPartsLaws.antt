@@ -17,7 +17,8 @@ use Rattle.book.specs.GoodFacts.{HeaderFacts, MaskFacts, RowFacts}
 use Rattle.book.proofs.LayoutLaws.{get_d_masks, get_d_rows}
 use Rattle.book.proofs.BookLaws.{facts_good}
 use Rattle.book_bytes.specs.BookBytes.{book_bytes, RowFits, BookFits, LimitsFit}
-use Rattle.book_bytes.proofs.BookBytesLaws.{slots_of_lem, row_count_of, masks_offset_of, rows_offset_of, book_length_of_lem, masks_of_lem, rows_of_lem, length_of}
+use Rattle.book_bytes.proofs.BookBytesLaws.{slots_of_lem, row_count_of, masks_offset_of, rows_offset_of}
+use Rattle.book_bytes.proofs.BookBytesLaws.{book_length_of_lem, masks_of_lem, rows_of_lem, length_of}
 
 pub record GoodParts (limits : Limits) (n k idle : ℕ) (ms : List ℕ) (rs : List Row) : Type 0 where
   pub slots_least : 1 ≤ n
@@ -97,7 +98,8 @@ module _ (limits : Limits) (small : LimitsFit limits) (n k idle : ℕ) (ms : Lis
         header = header;
         mask = λ s s<c.
             let s<n : s < n = omega (arith, n_is) in
-            let is : mask_at book s ≡ get_or ms s 0 = sym (get_d_masks book s s<c) ∙ ap (λ (xs : List ℕ). get_or xs s 0) (masks_of_lem n k idle ms rs parts_fit) in
+            let is : mask_at book s ≡ get_or ms s 0 =
+            sym (get_d_masks book s s<c) ∙ ap (λ (xs : List ℕ). get_or xs s 0) (masks_of_lem n k idle ms rs parts_fit) in
             rw is (parts.mask s s<n);
         row = λ i i<c.
             let i<r : i < length rs = omega (arith, r_is) in

@@ -9,20 +9,20 @@ ghost use Rattle.book.specs.Layout as Layout;
 ghost use Rattle.book_bytes.specs.BookBytes.{header_bytes, row_bytes, RowFits};
 
 use book::{Row, mask_at, slots};
-use elements::{put16, put32};
+use elements::put;
 
 // Writes the header of a book with n slots, k values, idle in byte 3 and r rows into the front of out.
 pub fn write_header(out: &mut [u8], n: usize, k: usize, idle: usize, r: usize)
     requires { (12 ≤ length out.old) × (k < 256) × (idle < 256) × (12 + 4 * n + 8 * r < 65536) }
     ensures { out.new ≡ sets out.old 0 (header_bytes n k idle r) }
 {
-    put16(out, 0, n as u16);
+    put(out, 0, n as u16);
     out[2] = k as u8;
     out[3] = idle as u8;
-    put16(out, 4, r as u16);
-    put16(out, 6, 12);
-    put16(out, 8, (12 + 4 * n) as u16);
-    put16(out, 10, (12 + 4 * n + 8 * r) as u16);
+    put(out, 4, r as u16);
+    put(out, 6, 12u16);
+    put(out, 8, (12 + 4 * n) as u16);
+    put(out, 10, (12 + 4 * n + 8 * r) as u16);
 }
 
 // Writes n times the same mask behind the header.
@@ -30,23 +30,19 @@ pub fn fill_masks(out: &mut [u8], n: usize, mask: u32)
     requires { 12 + 4 * n ≤ length out.old }
     ensures { out.new ≡ sets out.old 12 (bytes_of 4 (replicate n mask)) }
 {
-    let mut s = 0;
-    while s < n {
-        put32(out, 12 + 4 * s, mask);
-        s += 1;
+    for s in 0..n {
+        put(out, 12 + 4 * s, mask);
     }
 }
 
 // Writes the masks of book behind the header.
+// A loop of its own beside `fill_masks`: one function over a rule for the masks would need a clause for what each call of the rule gives, and be no shorter.
 pub fn write_masks(book: &[u8], out: &mut [u8])
     requires { (12 + 4 * Layout.slots book.now ≤ length book.now) × (12 + 4 * Layout.slots book.now ≤ length out.old) }
     ensures { out.new ≡ sets out.old 12 (bytes_of 4 (Layout.masks book.now)) }
 {
-    let n = slots(book);
-    let mut s = 0;
-    while s < n {
-        put32(out, 12 + 4 * s, mask_at(book, s));
-        s += 1;
+    for s in 0..slots(book) {
+        put(out, 12 + 4 * s, mask_at(book, s));
     }
 }
 
@@ -66,7 +62,7 @@ pub fn put_row(out: &mut [u8], place: usize, row: Row)
 {
     out[place] = row.value as u8;
     out[place + 1] = row.reserved as u8;
-    put16(out, place + 2, row.end as u16);
-    put16(out, place + 4, row.lower as u16);
-    put16(out, place + 6, row.upper as u16);
+    put(out, place + 2, row.end as u16);
+    put(out, place + 4, row.lower as u16);
+    put(out, place + 6, row.upper as u16);
 }

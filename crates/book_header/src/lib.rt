@@ -1,30 +1,30 @@
-// The tests of a book's header: the conditions of document 01's numbers 1 to 4, in its order.
+// The tests of a book's header: what the numbers 1 to 4 refuse, in this order.
 // The contracts cite book's `specs/Refusal.antt`.
 #![tactic(auto)]
 
 ghost use Rattle.std.specs.Prelude.{◌≡◌, ◌≤◌, length};
-ghost use Rattle.book.specs.Refusal as Refusal;
-ghost use Rattle.book.specs.Refusal.{out_of_range, header_fault, number_of};
+ghost use Rattle.book.specs.Refusal.{out_of_range, misplaced, header_fault, number_of};
 
-use book::{Limits, Verdict, idle, read16, row_count, slots, values};
+use answer::Refusal;
+use book::{Limits, idle, read16, row_count, slots, values};
 
 // Numbers 1 to 4.
-pub fn header_verdict(book: &[u8], limits: Limits) -> Verdict
+pub fn check_header(book: &[u8], limits: Limits) -> Result<(), Refusal>
     ensures { number_of result ≡ header_fault limits book.now }
 {
     if book.len() < 12 {
-        return Verdict::TooShort;
+        return Err(Refusal::TooShort);
     }
     if out_of_range(book, limits) {
-        return Verdict::OutOfRange;
+        return Err(Refusal::OutOfRange);
     }
     if values(book) < idle(book) {
-        return Verdict::UnknownIdle;
+        return Err(Refusal::IdleType);
     }
     if misplaced(book) {
-        return Verdict::WrongLayout;
+        return Err(Refusal::Layout);
     }
-    Verdict::Good
+    Ok(())
 }
 
 // Whether n, k or r is out of range.
@@ -46,7 +46,7 @@ fn out_of_range(book: &[u8], limits: Limits) -> bool
 // Whether an offset or length differs from the one that n and r give, or the lent length does.
 fn misplaced(book: &[u8]) -> bool
     requires { 12 ≤ length book.now }
-    ensures { result ≡ Refusal.misplaced book.now }
+    ensures { result ≡ misplaced book.now }
 {
     let rows_at = 12 + 4 * slots(book);
     let end = rows_at + 8 * row_count(book);

@@ -1,11 +1,12 @@
-// The tests of one mask and of one row: the conditions of document 01's numbers 5 and 6 to 8.
+// The tests of one mask and of one row: what the numbers 5, and 6 to 8, refuse.
 // The contracts cite book's `specs/Refusal.antt`.
 #![tactic(auto)]
 
 ghost use Rattle.std.specs.Prelude.{◌≡◌, eqb};
 ghost use Rattle.book.specs.Refusal.{mask_fault, row_fault, number_of};
 
-use book::{Row, Verdict};
+use answer::Refusal;
+use book::Row;
 
 // No more than this is a lower, or an upper that binds.
 const MOST_BOUND: usize = 256;
@@ -27,20 +28,20 @@ pub fn mask_fits(m: u32, k: usize) -> bool
 }
 
 // Numbers 6 to 8 of one row, for n slots and k values.
-pub fn row_verdict(row: Row, n: usize, k: usize) -> Verdict
+pub fn check_row(row: Row, n: usize, k: usize) -> Result<(), Refusal>
     ensures { number_of result ≡ row_fault n k row }
 {
     if k <= row.value || row.reserved != 0 {
-        return Verdict::BadRowValue;
+        return Err(Refusal::RowType);
     }
     if row.end == 0 || n < row.end {
-        return Verdict::BadRowEnd;
+        return Err(Refusal::RowEnd);
     }
     if MOST_BOUND < row.lower {
-        return Verdict::BadRowBound;
+        return Err(Refusal::RowBound);
     }
     if MOST_BOUND < row.upper && row.upper != NO_UPPER {
-        return Verdict::BadRowBound;
+        return Err(Refusal::RowBound);
     }
-    Verdict::Good
+    Ok(())
 }

@@ -5,14 +5,15 @@ ghost use Rattle.std.specs.Prelude.{◌≡◌, ◌+◌, ◌*◌, ◌≤◌, leng
 ghost use Rattle.book.specs.Layout.{list_of, mask_at};
 
 use book::mask_at;
+use filling::fill;
 
 // Fills masks with those of the first slots of book.
 pub fn load_masks(book: &[u8], masks: &mut [u32])
     requires { 12 + 4 * length masks.old ≤ length book.now }
     ensures { masks.new ≡ list_of (length masks.old) (mask_at book.now) }
 {
-    for s in 0..masks.len() {
-        masks[s] = mask_at(book, s);
+    for (slot, mask) in masks.iter_mut().enumerate() {
+        *mask = mask_at(book, slot);
     }
 }
 
@@ -20,7 +21,5 @@ pub fn load_masks(book: &[u8], masks: &mut [u32])
 pub fn clear_masks(masks: &mut [u32])
     ensures { masks.new ≡ replicate (length masks.old) 0 }
 {
-    for slot in 0..masks.len() {
-        masks[slot] = 0;
-    }
+    fill(masks, 0);
 }

@@ -9,6 +9,18 @@ use book_rises::closed_rises;
 use opening::open;
 use outcomes::Outcome;
 
+// The masks of 256 slots.
+pub const MASKS: usize = 256;
+
+// The cells of 256 slots and 32 values: 64 rows of 258, and 16 words of open slots.
+pub const CELLS: usize = 16528;
+
+// The bytes of a trail of 256 slots and 32 values.
+pub const TRAIL: usize = 25088;
+
+// The prefixes of 256 slots, 0 to 256.
+pub const PREFIXES: usize = 257;
+
 // Opens a good book: Live with the settled masks, the cells and the rises, or Dead where it does not settle.
 pub fn open_book(
     book: &[u8],

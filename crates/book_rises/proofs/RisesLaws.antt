@@ -6,13 +6,9 @@ use mathlib.Core.Bool.{true, false}
 use mathlib.Core.List.{List}
 use mathlib.Core.Option.{none, some}
 use Prim.Native.Nat.{ℕ}
-use native.Mathlib.Omega.{arith}
-use lib.ListN.{length}
 use Rattle.book.specs.Layout.{slots, values}
-use Rattle.closing_model.specs.Start.{entries}
-use Rattle.rises.specs.Rises.{over_rises, Holds}
+use Rattle.rises.specs.Rises.{over_rises}
 use Rattle.settling_model.specs.Book.{closed_book}
-use Rattle.settle_fault.specs.Ready.{FitBook}
 use Rattle.book_rises.specs.BookRises.{NotesRises}
 
 -- ---- NotesRises
@@ -24,10 +20,3 @@ notes_live {b} {lent} {lent'} {L} {U} closed n_is k_is lowers uppers =
 
 pub notes_dead : {b : List ℕ} (lent lent' : List ℕ) → closed_book b ≡ none → NotesRises b lent lent' lent lent' false
 notes_dead lent lent' dead = record { answer = rw dead; lowers = rw dead; uppers = rw dead }
-
--- ---- the room for a book's table
-
--- a list that holds the table of b, for the n and k that were read
-pub fit_holds : {b l : List ℕ} {n k : ℕ} → FitBook b → n ≡ slots b → k ≡ values b → length l ≡ entries b → Holds n k l
-fit_holds {b} {l} {n} {k} fit n_is k_is long =
-    record { values = rw k_is fit.values_most; entries = rw (n_is, k_is) (omega (arith, long)) }

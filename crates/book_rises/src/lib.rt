@@ -4,7 +4,7 @@
 
 ghost use Rattle.book_rises.specs.BookRises.{NotesRises, RisesRoom, TableRoom};
 
-use answer::word;
+use answer::Verdict;
 use book::{slots, values};
 use closing::{close_exactly, table_size};
 use rises::write_rises;
@@ -39,12 +39,14 @@ fn note_rises(
     ensures { NotesRises book.now lower_rises.old upper_rises.old
         lower_rises.new upper_rises.new result }
 {
-    if word(close_exactly(book, lowers, uppers)) != 0 {
-        return false;
+    match close_exactly(book, lowers, uppers) {
+        Verdict::Dead => false,
+        Verdict::Live => {
+            let n = slots(book);
+            let k = values(book);
+            write_rises(lowers, n, k, lower_rises);
+            write_rises(uppers, n, k, upper_rises);
+            true
+        }
     }
-    let n = slots(book);
-    let k = values(book);
-    write_rises(lowers, n, k, lower_rises);
-    write_rises(uppers, n, k, upper_rises);
-    true
 }

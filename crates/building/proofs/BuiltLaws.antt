@@ -17,20 +17,20 @@ use Rattle.segments_model.proofs.EndLaws.{with_end_inner, with_reserve_inner}
 use Rattle.segments_model.proofs.LinesLaws.{rising_line, line_bound}
 use Rattle.segments_model.proofs.SlackLaws.{segments_same, broken_same}
 use Rattle.corners.specs.Turn.{PreviousCorner}
-use Rattle.inserting.specs.declared.Visited.{Visited}
-use Rattle.inserting.specs.declared.Visited.TheVariants.{Lacking, Onward}
+use Rattle.std.proofs.Common.{Option, Some, None}
 use Rattle.inserting.specs.Visit.{VisitAnswer, Visit}
 use Rattle.building.specs.Built.{DoneAfter, Built}
 
 -- ---- one turn of `fill`, on the line that the rises give
 
-abbrev TurnAnswer : Bool → ℕ → List ℕ → List ℕ → ℕ → ℕ → List ℕ → Visited → Type 0
+abbrev TurnAnswer : Bool → ℕ → List ℕ → List ℕ → ℕ → ℕ → List ℕ → Option ℕ → Type 0
 TurnAnswer kind n rises M v t cells' s =
     VisitAnswer (n + 1) (row_corners kind n (line_of rises v)) (with_reserve n (reserve kind M v n) (gain kind (line_of rises v) M v))
     (with_reserve n 0 (loss kind (line_of rises v) M v)) t cells' s
 
 -- the right end at n + 1 is put in: x is its slack, by the count at n
-reserve_is : (kind : Bool) {rises M : List ℕ} {v n r k x : ℕ} → Counts kind rises M v n r k → x ≡ cond kind (n + 2 + k) (n + 2 + (n - k)) → x ≡ reserve kind M v n
+reserve_is : (kind : Bool) {rises M : List ℕ} {v n r k x : ℕ} → Counts kind rises M v n r k
+    → x ≡ cond kind (n + 2 + k) (n + 2 + (n - k)) → x ≡ reserve kind M v n
 reserve_is true counts x_is = omega (arith, x_is, counts.counted_is)
 reserve_is false counts x_is = omega (arith, x_is, counts.counted_is)
 
@@ -47,19 +47,19 @@ module _ (n : ℕ) {kind : Bool} {rises M : List ℕ} {v t r k : ℕ} (counts : 
     (l l' : List ℕ) (next : ℕ) (done : DoneAfter kind n rises M v t l next)
     {corner : Bool} (corner_is : corner ≡ corner_of kind n (line_of rises v) t)
     {gained lost : ℕ} (gained_is : gained ≡ cond kind k r) (lost_is : lost ≡ cond kind r k)
-    {s : Visited} (visit : Visit (n + 1) t corner gained lost next l l' s) (t≤n : t ≤ n) where
+    {s : Option ℕ} (visit : Visit (n + 1) t corner gained lost next l l' s) (t≤n : t ≤ n) where
   turn_answer : TurnAnswer kind n rises M v t l' s
   turn_answer =
       visit.answer _ _ _ (with_end_inner n _ t t≤n ∙ sym corner_is) (with_reserve_inner n _ _ t t≤n ∙ sym (gained_is ∙ gain_is counts))
       (with_reserve_inner n _ _ t t≤n ∙ sym (lost_is ∙ loss_is counts)) done
 
-  pub turn_broken : s ≡ Lacking → BrokenAt kind n (line_of rises v) M v t
+  pub turn_broken : s ≡ None → BrokenAt kind n (line_of rises v) M v t
   turn_broken e =
       let line = line_of rises v in
       broken_inner n (corner_of kind n line) (gain kind line M v) (loss kind line M v) (reserve kind M v n) t t≤n
       (subst (TurnAnswer kind n rises M v t l') e turn_answer)
 
-  pub turn_onward : {first : ℕ} → s ≡ Onward first → DoneAfter kind n rises M v (t - 1) l' first
+  pub turn_onward : {first : ℕ} → s ≡ Some first → DoneAfter kind n rises M v (t - 1) l' first
   turn_onward e = subst (TurnAnswer kind n rises M v t l') e turn_answer
 
 -- ---- the corners after the one found are done
@@ -87,4 +87,5 @@ module _ (kind : Bool) (n v : ℕ) (rises M l l' : List ℕ) (size : length l' �
   pub built_all : (t next : ℕ) → t ≡ 0 → DoneAfter kind n rises M v t l' next → Built kind n v rises M l l' true
   built_all t next e done =
       let all : DoneAfter kind n rises M v 0 l' next = rw e at done in
-      record { size = size; answer = λ u rising. segments_same kind (rising_line rising) M v (segments_done all (λ w w≤n. omega (arith, line_bound rises v w))) }
+      let line = segments_done all (λ w w≤n. omega (arith, line_bound rises v w)) in
+      record { size = size; answer = λ u rising. segments_same kind (rising_line rising) M v line }

@@ -9,7 +9,7 @@ ghost use Rattle.segments_model.specs.Build.{Counts};
 ghost use Rattle.segments_model.specs.Part.{Lent};
 ghost use Rattle.building.specs.Built.{DoneAfter, Built};
 
-use inserting::{Visited, blank, insert, point, visit};
+use inserting::{blank, insert, point, visit};
 
 // Fills the cells of one value from its rises and the masks. False where a corner is broken.
 pub fn build(cells: &mut [u16], rises: &[u32], masks: &[u32], n: usize, v: u32, lower: bool) -> bool
@@ -75,11 +75,12 @@ fn fill(
     let mut k = counted;
     let mut next = first;
     let mut t = n;
+    // a `while`: t goes from corner to corner, by no fixed step
     while 0 < t {
         let corner = corners::corner_at(rises, n, v, lower, t);
         let gained = choose(lower, k, r);
         let lost = choose(lower, r, k);
-        let Visited::Onward(end) = visit(cells, n + 1, t, corner, gained, lost, next) else {
+        let Some(end) = visit(cells, n + 1, t, corner, gained, lost, next) else {
             return false;
         };
         next = end;
@@ -93,6 +94,7 @@ fn fill(
     true
 }
 
+// The one of x and y that b says.
 fn choose(b: bool, x: u32, y: u32) -> usize
     ensures { result ≡ cond b x y }
 {

@@ -11,11 +11,10 @@ pub fn call_at(calls: &[u8], i: usize) -> Call
     ensures { call_given result ≡ call_at calls.now i }
 {
     let at = 4 * i;
-    Call {
-        kind: calls[at],
-        value: byte(calls, at + 1) as u32,
-        slot: byte(calls, at + 2) + 256 * byte(calls, at + 3),
-    }
+    let kind = byte(calls, at) as u32;
+    let value = byte(calls, at + 1) as u32;
+    let slot = byte(calls, at + 2) + 256 * byte(calls, at + 3);
+    Call::new(kind, value, slot)
 }
 
 fn byte(s: &[u8], i: usize) -> usize

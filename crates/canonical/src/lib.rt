@@ -1,5 +1,5 @@
-// The canonical book of a book (document 02, request six): a row for each corner of its closed table. Every slice of every length gets an answer, and out is
-// written only where the book is live, its rows are few enough and out has room for them. The contracts cite `specs/Archive.antt`, canonical_model's
+// The canonical book of a book: a row for each corner of its closed table. Every slice of every length gets an answer, and out is written only
+// where the book is live, its rows are few enough and out has room for them. The contracts cite `specs/Archive.antt`, canonical_model's
 // `specs/Canonical.antt`, and that of the entry entries_model's `specs/Entries.antt`.
 #![tactic(auto)]
 
@@ -14,44 +14,30 @@ ghost use Rattle.canonical_model.specs.Canonical.{canonical_book, archive_of, ca
 ghost use Rattle.entries_model.specs.Entries.{CanonicalEntry};
 ghost use Rattle.canonical.specs.Archive.{TableRoom, ClosedTable, BookRoom};
 
-use answer::{Answer, word};
-use book::{Limits, idle, number, slots, values};
+use answer::{Refusal, Verdict};
+use book::{Limits, idle, slots, values};
 use book_bytes::{write_header, write_masks};
 use canonical_rows::{count_rows, write_rows};
 use closing::{close_exactly, table_size};
+use entries_model::FULL_LIMITS;
 use reader::read;
-
-// Document 01's limits.
-const SLOTS: usize = 256;
-
-const TYPES: usize = 32;
-
-const ROWS: usize = 1024;
 
 // Room for the lowers, or the uppers, of 256 slots and 32 types.
 const TABLE: usize = 8224;
 
 // Writes the canonical book of book into the front of out.
-pub fn canonical(book: &[u8], out: &mut [u8]) -> Answer
+pub fn canonical(book: &[u8], out: &mut [u8]) -> Result<Verdict, Refusal>
     ensures { CanonicalEntry book.now out.old (word_of result) out.new }
 {
-    let limits = Limits {
-        slots: SLOTS,
-        values: TYPES,
-        rows: ROWS,
-    };
-    archive(book, limits, out)
+    archive(book, FULL_LIMITS, out)
 }
 
 // The same within limits.
-fn archive(book: &[u8], limits: Limits, out: &mut [u8]) -> Answer
+fn archive(book: &[u8], limits: Limits, out: &mut [u8]) -> Result<Verdict, Refusal>
     requires { LimitsFit limits }
     ensures { Canonises (canonical_of limits book.now (length out.old)) (word_of result) out.old out.new }
 {
-    let own = number(read(book, limits));
-    if own != 0 {
-        return Answer::Refused(own as u8);
-    }
+    read(book, limits)?;
     let mut lowers = [0u16; TABLE];
     let mut uppers = [0u16; TABLE];
     let m = table_size(book);
@@ -65,15 +51,15 @@ fn close_and_archive(
     lowers: &mut [u16],
     uppers: &mut [u16],
     out: &mut [u8],
-) -> Answer
+) -> Result<Verdict, Refusal>
     requires { LimitsFit limits × TableRoom book.now lowers.old uppers.old }
     ensures { Canonises (archive_of limits book.now (length out.old) (closed_book book.now)) (word_of result)
         out.old out.new }
 {
-    if word(close_exactly(book, lowers, uppers)) != 0 {
-        return Answer::Dead;
+    match close_exactly(book, lowers, uppers) {
+        Verdict::Live => archive_table(book, limits, lowers, uppers, out),
+        Verdict::Dead => Ok(Verdict::Dead),
     }
-    archive_table(book, limits, lowers, uppers, out)
 }
 
 // The same of a book that closes to the table.
@@ -83,7 +69,7 @@ fn archive_table(
     lowers: &[u16],
     uppers: &[u16],
     out: &mut [u8],
-) -> Answer
+) -> Result<Verdict, Refusal>
     requires { LimitsFit limits × ClosedTable book.now lowers.now uppers.now }
     ensures { Canonises (archive_of limits book.now (length out.old) (some (lowers.now, uppers.now))) (word_of result)
         out.old out.new }
@@ -92,13 +78,13 @@ fn archive_table(
     let k = values(book);
     let r = count_rows(lowers, uppers, n, k);
     if limits.rows < r {
-        return Answer::Refused(19);
+        return Err(Refusal::TooManyRows);
     }
     if out.len() < 12 + 4 * n + 8 * r {
-        return Answer::Refused(9);
+        return Err(Refusal::OutputTooShort);
     }
     write_book(book, lowers, uppers, r, out);
-    Answer::Live
+    Ok(Verdict::Live)
 }
 
 // Writes the canonical book of a book that closes to the table, and needs r rows.

@@ -25,7 +25,8 @@ use Rattle.canonical_rows.specs.Lines.{line_in, part_rows, RowsWritten}
 rows_bytes_append : (xs ys : List Row) → rows_bytes (xs ++ ys) ≡ rows_bytes xs ++ rows_bytes ys
 unfolding rows_bytes
 rows_bytes_append [] ys = refl
-rows_bytes_append (r ∷ rs) ys = ap (λ (l : List ℕ). row_bytes r ++ l) (rows_bytes_append rs ys) ∙ sym (append_assoc (row_bytes r) (rows_bytes rs) (rows_bytes ys))
+rows_bytes_append (r ∷ rs) ys =
+    ap (λ (l : List ℕ). row_bytes r ++ l) (rows_bytes_append rs ys) ∙ sym (append_assoc (row_bytes r) (rows_bytes rs) (rows_bytes ys))
 
 pub written_none : (out : List ℕ) (p : ℕ) → RowsWritten [] out p out p
 unfolding rows_bytes
@@ -41,7 +42,8 @@ written_append {xs} {ys} {out} {p = p} {q} one other =
     record {
       bytes =
           other.bytes ∙ ap (λ (l : List ℕ). sets l q (rows_bytes ys)) one.bytes
-          ∙ sets_append out p (rows_bytes xs) (rows_bytes ys) q (omega (arith, rows_bytes_length xs, one.next)) ∙ ap (sets out p) (sym (rows_bytes_append xs ys));
+          ∙ sets_append out p (rows_bytes xs) (rows_bytes ys) q (omega (arith, rows_bytes_length xs, one.next))
+          ∙ ap (sets out p) (sym (rows_bytes_append xs ys));
       next = omega (arith, one.next, other.next, length-append xs ys);
     }
 
@@ -125,11 +127,22 @@ module _ (n : ℕ) (T : Table) (v : ℕ) where
   line_part (suc e) = ap₂ (λ (xs ys : List Row). xs ++ ys) (line_part e) (ap (corner_rows n T v) (omega arith)) ∙ sym (part_suc 0 e)
 
   -- the last end of a line
-  pub line_last : (e : ℕ) → 0 < e → length (line_rows n T v e) ≡ length (part_rows n T v 0 (e - 1)) + bit (has_corner n T v e)
+  line_last : (e : ℕ) → 0 < e → length (line_rows n T v e) ≡ length (part_rows n T v 0 (e - 1)) + bit (has_corner n T v e)
   line_last e 0<e =
       let last : e - 1 + 1 ≡ e = omega arith in
       ap length (line_part e) ∙ ap (λ (i : ℕ). length (part_rows n T v 0 i)) (sym last) ∙ part_more 0 (e - 1)
       ∙ ap (λ (t : ℕ). length (part_rows n T v 0 (e - 1)) + bit (has_corner n T v t)) (omega arith)
+
+  -- so many rows has a line: those of the ends before the last, and of the last
+  pub line_count : {e x : ℕ} {has : Bool} → 0 < e → (x ≡ length (part_rows n T v 0 (e - 1))) × (x ≤ e - 1) → has_corner n T v e ≡ has
+      → (x + bit has ≡ length (line_rows n T v e)) × (x + bit has ≤ e)
+  line_count {e} {x} {has} 0<e inner is =
+      let last : bit (has_corner n T v e) ≡ bit has = ap bit is in
+      (omega (arith, line_last e 0<e, inner.0, last), omega (arith, inner.1, bit_most has))
+    where
+      bit_most : (b : Bool) → bit b ≤ 1
+      bit_most true = omega arith
+      bit_most false = omega arith
 
 -- the eight ends of a block
 pub block_rows : (n : ℕ) (T : Table) (v from : ℕ) → part_rows n T v from (from + 8 - from) ≡ part_rows n T v from 8

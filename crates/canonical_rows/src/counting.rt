@@ -25,10 +25,8 @@ pub fn count_ends(lowers: &[u16], uppers: &[u16], n: usize, v: usize, from: usiz
 {
     let p = v * (n + 1) + from;
     let mut count: u16 = 0;
-    let mut i = 0;
-    while i < m {
+    for i in 0..m {
         count += turns(lowers, uppers, p + i);
-        i += 1;
     }
     count
 }
@@ -38,8 +36,5 @@ fn has_corner(lowers: &[u16], uppers: &[u16], n: usize, v: usize, t: usize) -> b
     requires { Lines n v lowers.now uppers.now × (0 < t) × (t ≤ n) }
     ensures { result ≡ has_corner n (view lowers.now uppers.now) v t }
 {
-    if corner_at(lowers, n, v, true, t) {
-        return true;
-    }
-    corner_at(uppers, n, v, false, t)
+    corner_at(lowers, n, v, true, t) || corner_at(uppers, n, v, false, t)
 }

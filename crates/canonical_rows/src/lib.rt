@@ -18,10 +18,8 @@ pub fn count_rows(lowers: &[u16], uppers: &[u16], n: usize, k: usize) -> usize
     ensures { result ≡ length (canonical_rows n k (view lowers.now uppers.now)) }
 {
     let mut count = 0;
-    let mut v = 0;
-    while v < k {
+    for v in 0..k {
         count += counting::count_line(lowers, uppers, n, v);
-        v += 1;
     }
     count
 }
@@ -39,10 +37,8 @@ pub fn write_rows(
     ensures { RowsWritten (canonical_rows n k (view lowers.now uppers.now)) out.old place out.new result }
 {
     let mut next = place;
-    let mut v = 0;
-    while v < k {
+    for v in 0..k {
         next = writing::write_line(lowers, uppers, n, v, out, next);
-        v += 1;
     }
     next
 }

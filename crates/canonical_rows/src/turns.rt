@@ -14,13 +14,10 @@ pub fn corner_at(s: &[u16], n: usize, v: usize, lower: bool, t: usize) -> bool
 {
     let p = v * (n + 1) + t;
     let here = at(s, p);
-    if here != at(s, p - 1) + one(lower) {
+    if here != at(s, p - 1) + usize::from(lower) {
         return false;
     }
-    if t == n {
-        return true;
-    }
-    at(s, p + 1) == here + one(!lower)
+    t == n || at(s, p + 1) == here + usize::from(!lower)
 }
 
 // By how much either bound turns in its way at the entry after p, where one follows it: on lines that grow by 0 or 1 that is 1 at a corner, and else 0.
@@ -40,11 +37,4 @@ fn rise(s: &[u16], p: usize) -> u16
     ensures { result ≡ get_or s.now (p + 1) 0 - get_or s.now p 0 }
 {
     less16(entry(s, p + 1), entry(s, p))
-}
-
-// 1 for true.
-fn one(b: bool) -> usize
-    ensures { (result ≡ bit b) × (result ≤ 1) }
-{
-    if b { 1 } else { 0 }
 }

@@ -38,6 +38,7 @@ pub fn write_line(
 {
     let mut next = place;
     let mut t = 0;
+    // A `while`, since the rest begins where it stops.
     while t + BLOCK < n {
         next = write_block(lowers, uppers, n, v, t, out, next);
         t += BLOCK;
@@ -67,6 +68,7 @@ fn write_block(
     let end = place + ROW * found as usize;
     let mut next = place;
     let mut t = from;
+    // A `while`, since it stops by the place, at the block's last corner, and not by the end.
     while next < end {
         t += 1;
         next = write_corner(lowers, uppers, n, v, t, out, next);
@@ -83,10 +85,8 @@ fn only_corner(lowers: &[u16], uppers: &[u16], n: usize, v: usize, from: usize) 
 {
     let p = v * (n + 1) + from;
     let mut sum: u16 = 0;
-    let mut i = 0;
-    while i < BLOCK {
+    for i in 0..BLOCK {
         sum += turns(lowers, uppers, p + i) * (i as u16 + 1);
-        i += 1;
     }
     sum
 }
@@ -107,10 +107,8 @@ fn write_rest(
         out.old place out.new result }
 {
     let mut next = place;
-    let mut t = from;
-    while t < n {
-        t += 1;
-        next = write_corner(lowers, uppers, n, v, t, out, next);
+    for t in from..n {
+        next = write_corner(lowers, uppers, n, v, t + 1, out, next);
     }
     next
 }
@@ -131,10 +129,7 @@ fn write_corner(
 {
     let low = corner_at(lowers, n, v, true, t);
     let high = corner_at(uppers, n, v, false, t);
-    if low {
-        return write_row(lowers, uppers, n, v, t, low, high, out, place);
-    }
-    if high {
+    if low || high {
         return write_row(lowers, uppers, n, v, t, low, high, out, place);
     }
     place

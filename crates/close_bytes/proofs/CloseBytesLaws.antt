@@ -30,6 +30,7 @@ module _ (m : ℕ) (front rest : List ℕ) (long : length front ≡ m) where
   pub front_fits : (len : ℕ) → m ≤ whole 2 len → 2 * length (take m (front ++ rest)) ≤ len
   front_fits len room = omega (arith, length_front)
 
-  pub overlay_written : (out out' : List ℕ) → out' ≡ bytes_of 2 (take m (front ++ rest)) ++ drop (2 * length (take m (front ++ rest))) out → out' ≡ overlay (bytes_of 2 front) out
+  pub overlay_written : (out out' : List ℕ) → out' ≡ bytes_of 2 (take m (front ++ rest)) ++ drop (2 * length (take m (front ++ rest))) out
+      → out' ≡ overlay (bytes_of 2 front) out
   overlay_written out out' written =
       written ∙ rw (take_at front rest m long) (ap (λ (j : ℕ). bytes_of 2 front ++ drop j out) (sym (length_bytes_of 2 front)))

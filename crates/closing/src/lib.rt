@@ -6,47 +6,47 @@
 
 ghost use Rattle.std.specs.Prelude.{◌≡◌, ◌≤◌, length};
 ghost use Rattle.answer.specs.Answer.{word_of};
+ghost use Rattle.book.specs.Refusal.{number_of};
 ghost use Rattle.closing_model.specs.Start.{entries};
 ghost use Rattle.starting.specs.Ready.{Ready};
 ghost use Rattle.closing.specs.Close.{Closes, close_fault, close_of, close_good};
 ghost use Rattle.closing.specs.Wrote.{Wrote};
 
-use answer::Answer;
-use book::{Limits, number, slots, values};
+use answer::{Refusal, Verdict};
+use book::{Limits, slots, values};
 use bounds::close_table;
 use filling::fill_zeros;
 use reader::read;
 use starting::start_table;
 
 // Closes the table of book into the fronts of lowers and uppers, value by value.
-pub fn close(book: &[u8], limits: Limits, lowers: &mut [u16], uppers: &mut [u16]) -> Answer
+pub fn close(
+    book: &[u8],
+    limits: Limits,
+    lowers: &mut [u16],
+    uppers: &mut [u16],
+) -> Result<Verdict, Refusal>
     ensures { Closes (λ xs. xs) (close_of limits book.now (length lowers.old) (length uppers.old)) (word_of result)
         lowers.old uppers.old lowers.new uppers.new }
 {
-    let number = fault(book, limits, lowers.len(), uppers.len());
-    if number != 0 {
-        return Answer::Refused(number);
-    }
+    check(book, limits, lowers.len(), uppers.len())?;
     let m = table_size(book);
-    close_exactly(book, &mut lowers[..m], &mut uppers[..m])
+    Ok(close_exactly(book, &mut lowers[..m], &mut uppers[..m]))
 }
 
-// The number that refuses book, or outputs of so many elements; 0 where none does.
-pub fn fault(book: &[u8], limits: Limits, lowers: usize, uppers: usize) -> u8
-    ensures { result ≡ close_fault limits book.now lowers uppers }
+// What refuses book, or outputs of so many elements.
+pub fn check(book: &[u8], limits: Limits, lowers: usize, uppers: usize) -> Result<(), Refusal>
+    ensures { number_of result ≡ close_fault limits book.now lowers uppers }
 {
-    let own = number(read(book, limits));
-    if own != 0 {
-        return own as u8;
-    }
+    read(book, limits)?;
     let m = table_size(book);
     if lowers < m {
-        return 9;
+        return Err(Refusal::OutputTooShort);
     }
     if uppers < m {
-        return 9;
+        return Err(Refusal::OutputTooShort);
     }
-    0
+    Ok(())
 }
 
 // k(n+1), how many lowers and how many uppers the table of book has.
@@ -58,15 +58,15 @@ pub fn table_size(book: &[u8]) -> usize
 }
 
 // Closes the table of a good book in two slices that have just the room for it.
-pub fn close_exactly(book: &[u8], lowers: &mut [u16], uppers: &mut [u16]) -> Answer
+pub fn close_exactly(book: &[u8], lowers: &mut [u16], uppers: &mut [u16]) -> Verdict
     requires { Ready book.now lowers.old uppers.old }
     ensures { Wrote (close_good book.now) result lowers.new uppers.new }
 {
     start_table(book, lowers, uppers);
     if close_table(lowers, uppers, slots(book), values(book)) {
-        return Answer::Live;
+        return Verdict::Live;
     }
     fill_zeros(lowers);
     fill_zeros(uppers);
-    Answer::Dead
+    Verdict::Dead
 }

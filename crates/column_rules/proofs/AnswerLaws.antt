@@ -1,9 +1,8 @@
 -- The laws of `specs/Answer.antt`. No contract cites this file. `SumsInv`: the invariant of a loop that sums a column, `sums_start`,
--- `sums_more` and `sums_done` its start, turn and end; `outcome_same`, `outcome_changed`, `outcome_crossed`: what an arm of a match on the
--- answer knows; `between_turn`: the rules at one prefix more; `ran_empty`: none are left.
+-- `sums_more` and `sums_done` its start, turn and end; `between_turn`: the rules at one prefix more; `ran_empty`: none are left.
 -- Assumes nothing.
-use mathlib.Core.Path.{◌≡◌, sym, subst}
-use mathlib.Core.Bool.{Bool, true, false, ◌||◌}
+use mathlib.Core.Path.{◌≡◌, refl, sym}
+use mathlib.Core.Bool.{Bool, ◌||◌}
 use mathlib.Core.List.{List}
 use mathlib.Core.Logic.{dite}
 use Prim.Native.Nat.{ℕ, ◌+◌, ◌-◌, ◌*◌, ◌≤◌, ◌<◌, max}
@@ -14,15 +13,11 @@ use Rattle.closing_model.specs.Table.{Table, view, size, place, Within}
 use Rattle.closing_model.specs.Sweep.{column_sum, widest, Across, Ran, Did}
 use Rattle.closing_model.proofs.SumLaws.{column_sum_none, column_sum_more, widest_none, widest_more}
 use Rattle.closing_model.proofs.RanLaws.{ran_more}
-use Rattle.column_rules.specs.declared.Sweep.{Sweep}
-use Rattle.column_rules.specs.declared.Sweep.TheVariants.{Same, Changed, Crossed}
-use Rattle.column_rules.specs.Answer.{SumsMatch, Between, Outcome}
+use Rattle.column_rules.specs.Answer.{SumsMatch, Between}
 
 -- ---- SumsMatch
--- the invariant of the loop over the values: p is the place of value v, and the sums and the gap are those of the first v
-pub record SumsInv (n k t : ℕ) (T : Table) (sl su gap v p : ℕ) : Type 0 where
-  pub upto : v ≤ k
-  pub at : p ≡ place n v t
+-- the invariant of the loop over the values: the sums and the gap are those of the first v
+pub record SumsInv (n t : ℕ) (T : Table) (sl su gap v : ℕ) : Type 0 where
   pub lowers : sl ≡ column_sum n v T.lower t
   pub lowers_fit : sl ≤ 65535 * v
   pub uppers : su ≡ column_sum n v T.upper t
@@ -30,11 +25,9 @@ pub record SumsInv (n k t : ℕ) (T : Table) (sl su gap v p : ℕ) : Type 0 wher
   pub gap_is : gap ≡ widest n v T t
   pub gap_fits : gap < 65536
 
-pub sums_start : (n k t : ℕ) (T : Table) → SumsInv n k t T 0 0 0 0 t
-sums_start n k t T =
+pub sums_start : (n t : ℕ) (T : Table) → SumsInv n t T 0 0 0 0
+sums_start n t T =
     record {
-      upto = omega arith;
-      at = omega arith;
       lowers = column_sum_none n t T.lower;
       lowers_fit = omega arith;
       uppers = column_sum_none n t T.upper;
@@ -43,42 +36,28 @@ sums_start n k t T =
       gap_fits = omega arith;
     }
 
-pub sums_more : {n k t : ℕ} (T : Table) {sl su gap v p a b d gap' : ℕ} → SumsInv n k t T sl su gap v p → v < k → a ≡ T.lower p → a < 65536 → b ≡ T.upper p → b < 65536
-    → d ≡ b - a → gap' ≡ max gap d → SumsInv n k t T (sl + a) (su + b) gap' (v + 1) (p + (n + 1))
-sums_more {n} {t = t} T {v = v} {p = p} inv v<k a_is a_fits b_is b_fits d_is gap_is =
+pub sums_more : {n t : ℕ} (T : Table) {sl su gap v a b d gap' : ℕ} → SumsInv n t T sl su gap v → a ≡ T.lower (place n v t) → a < 65536
+    → b ≡ T.upper (place n v t) → b < 65536 → d ≡ b - a → gap' ≡ max gap d → SumsInv n t T (sl + a) (su + b) gap' (v + 1)
+sums_more {n} {t} T {v = v} inv a_is a_fits b_is b_fits d_is gap_is =
+    let p = place n v t in
     record {
-      upto = omega arith;
-      at = omega (arith, inv.at);
-      lowers = column_sum_more n t T.lower v p inv.lowers inv.at a_is;
+      lowers = column_sum_more n t T.lower v p inv.lowers refl a_is;
       lowers_fit = omega (arith, inv.lowers_fit);
-      uppers = column_sum_more n t T.upper v p inv.uppers inv.at b_is;
+      uppers = column_sum_more n t T.upper v p inv.uppers refl b_is;
       uppers_fit = omega (arith, inv.uppers_fit);
-      gap_is = widest_more n t T v p inv.gap_is inv.at a_is b_is d_is gap_is;
+      gap_is = widest_more n t T v p inv.gap_is refl a_is b_is d_is gap_is;
       gap_fits = omega (arith, inv.gap_fits);
     }
 
-pub sums_done : {n k t : ℕ} (T : Table) {sl su gap v p : ℕ} → k ≤ v → SumsInv n k t T sl su gap v p → SumsMatch n k t T (record { lowers = sl; uppers = su; gap = gap })
-sums_done {n} {k} {t} T {sl} {su} {gap} {v} k≤v inv =
-    let whole : v ≡ k = omega (arith, inv.upto) in
+pub sums_done : {n k t : ℕ} (T : Table) {sl su gap v : ℕ} → v ≡ k → SumsInv n t T sl su gap v
+    → SumsMatch n k t T (record { lowers = sl; uppers = su; gap = gap })
+sums_done T whole inv =
     record {
       sums = record { uppers = sym (rw whole at inv.uppers); lowers = sym (rw whole at inv.lowers) };
       gap = rw whole at inv.gap_is;
       gap_fits = inv.gap_fits;
       lowers_fit = rw whole at inv.lowers_fit;
     }
-
--- ---- Outcome
-pub outcome_same : {edge : ℕ} {P : Table → Type 0} {L U L' U' : List ℕ} {r : Sweep} → r ≡ Same → Outcome edge P L U L' U' r
-    → Did edge P L U L' U' false
-outcome_same {edge} {P} {L} {U} {L'} {U'} same outcome = subst (λ (s : Sweep). Outcome edge P L U L' U' s) same outcome
-
-pub outcome_changed : {edge : ℕ} {P : Table → Type 0} {L U L' U' : List ℕ} {r : Sweep} → r ≡ Changed → Outcome edge P L U L' U' r
-    → Did edge P L U L' U' true
-outcome_changed {edge} {P} {L} {U} {L'} {U'} changed outcome = subst (λ (s : Sweep). Outcome edge P L U L' U' s) changed outcome
-
-pub outcome_crossed : (edge : ℕ) (P : Table → Type 0) (L U L' U' : List ℕ) {r : Sweep} → r ≡ Crossed → Outcome edge P L U L' U' r → (T : Table) → P T
-    → Within edge (view L U) T → ⊥
-outcome_crossed edge P L U L' U' crossed outcome = subst (λ (s : Sweep). Outcome edge P L U L' U' s) crossed outcome
 
 -- ---- Between
 -- where what a run left holds no table with some of the rules, what it began with holds none with all

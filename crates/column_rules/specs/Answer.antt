@@ -4,12 +4,11 @@
 --   Between            the rules across the values at some prefixes in a row
 --   Outcome            what a run of rules did, by its answer: nothing, stores, or the finding that no table with the rules lies within
 -- Assumes nothing.
-use Rattle.std.specs.Prelude.{◌≡◌, true, false, List, ℕ, ◌*◌, ◌<◌, ◌≤◌, length}
+use Rattle.std.specs.Prelude.{◌≡◌, Bool, Result, Ok, Err, List, ℕ, ◌*◌, ◌<◌, ◌≤◌, length}
 use Rattle.closing_model.specs.Table.{Table, view, size, Within}
 use Rattle.closing_model.specs.Sweep.{widest, SumsAre, Across, Did}
 use Rattle.column_rules.specs.declared.Sums.{Sums}
-use Rattle.column_rules.specs.declared.Sweep.{Sweep}
-use Rattle.column_rules.specs.declared.Sweep.TheVariants.{Same, Changed, Crossed}
+use Rattle.column_rules.specs.declared.Crossed.{Crossed}
 
 -- prefix lengths are entries, of 16 bits, and as many values have a sum of entries that fits
 pub record Fits (n k : ℕ) (L U : List ℕ) : Type 0 where
@@ -28,7 +27,6 @@ pub record SumsMatch (n k t : ℕ) (T : Table) (s : Sums) : Type 0 where
 abbrev pub Between : ℕ → ℕ → ℕ → ℕ → Table → Type 0
 Between n k t e T = (i : ℕ) → t ≤ i → i < e → Across n k i T
 
-abbrev pub Outcome : ℕ → (Table → Type 0) → List ℕ → List ℕ → List ℕ → List ℕ → Sweep → Type 0
-Outcome edge P L U L' U' Same = Did edge P L U L' U' false
-Outcome edge P L U L' U' Changed = Did edge P L U L' U' true
-Outcome edge P L U L' U' Crossed = (T : Table) → P T → Within edge (view L U) T → ⊥
+abbrev pub Outcome : ℕ → (Table → Type 0) → List ℕ → List ℕ → List ℕ → List ℕ → Result Bool Crossed → Type 0
+Outcome edge P L U L' U' (Ok stored) = Did edge P L U L' U' stored
+Outcome edge P L U L' U' (Err crossed) = (T : Table) → P T → Within edge (view L U) T → ⊥

@@ -1,4 +1,5 @@
-// The rules across the values at one prefix, and at some prefixes one after the other, by sums over the values that are held in scalars. Nothing is refused here.
+// The rules across the values at one prefix, and at some prefixes one after the other, by sums over the values that are held in scalars. Nothing is refused
+// here.
 // The contracts cite specs/Answer.antt, and `SumsAre` and `Across` of closing_model's specs/Sweep.antt.
 #![tactic(auto)]
 
@@ -7,15 +8,11 @@ ghost use Rattle.closing_model.specs.Table.{view, size};
 ghost use Rattle.closing_model.specs.Sweep.{SumsAre, Across};
 ghost use Rattle.column_rules.specs.Answer.{SumsMatch, Outcome, Fits, Between};
 
-use stores::{at, greater, less, narrow};
+use stores::{at, narrow};
 
-// What a run of the rules did: nothing, stored something, or found that no closed table lies within.
-#[derive(Clone, Copy)]
-pub enum Sweep {
-    Same,
-    Changed,
-    Crossed,
-}
+// That no closed table lies within.
+#[derive(Clone, Copy, PartialEq, Eq, Debug)]
+pub struct Crossed;
 
 // What the entries at one prefix come to: the sum of the lowers, that of the uppers, and the widest gap from a lower to its upper.
 #[derive(Clone, Copy)]
@@ -32,17 +29,14 @@ fn column_sums(lowers: &[u16], uppers: &[u16], n: usize, k: usize, t: usize) -> 
 {
     let mut sl = 0;
     let mut su = 0;
-    let mut gap = 0;
-    let mut v = 0;
-    let mut p = t;
-    while v < k {
+    let mut gap: usize = 0;
+    for v in 0..k {
+        let p = v * (n + 1) + t;
         let a = at(lowers, p);
         let b = at(uppers, p);
         sl += a;
         su += b;
-        gap = greater(gap, less(b, a));
-        p += n + 1;
-        v += 1;
+        gap = gap.max(b.saturating_sub(a));
     }
     Sums {
         lowers: sl,
@@ -52,7 +46,7 @@ fn column_sums(lowers: &[u16], uppers: &[u16], n: usize, k: usize, t: usize) -> 
 }
 
 // The rules across the values at prefix t, with the sums as they stand at the start: after a store they ask less than the rules do, and
-// the next sweep asks the rest. Crossed where the other values' lowers alone sum up to more than t.
+// the next sweep asks the rest. Whether it stored something; Crossed where the other values' lowers alone sum up to more than t.
 fn narrow_column(
     lowers: &mut [u16],
     uppers: &mut [u16],
@@ -61,45 +55,44 @@ fn narrow_column(
     t: usize,
     su: usize,
     sl: usize,
-) -> Sweep
+) -> Result<bool, Crossed>
     requires { Fits n k lowers.old uppers.old × (t ≤ n) × SumsAre n k t su sl (view lowers.old uppers.old) }
     ensures { Outcome (size n k) (Across n k t) lowers.old uppers.old lowers.new uppers.new result }
 {
     let mut changed = false;
-    let mut v = 0;
-    let mut p = t;
-    while v < k {
+    for v in 0..k {
+        let p = v * (n + 1) + t;
         let a = at(lowers, p);
         let b = at(uppers, p);
-        let ol = less(sl, a);
+        let ol = sl.saturating_sub(a);
         if t < ol {
-            return Sweep::Crossed;
+            return Err(Crossed);
         }
-        if narrow(lowers, uppers, p, less(t, less(su, b)), t - ol) {
-            changed = true;
-        }
-        p += n + 1;
-        v += 1;
+        let lower = t.saturating_sub(su.saturating_sub(b));
+        changed |= narrow(lowers, uppers, p, lower, t - ol);
     }
-    if changed {
-        return Sweep::Changed;
-    }
-    Sweep::Same
+    Ok(changed)
 }
 
-// The rules across the values at prefix t. Where no gap is wider than what either sum leaves, they ask nothing.
-fn column(lowers: &mut [u16], uppers: &mut [u16], n: usize, k: usize, t: usize) -> Sweep
+// The rules across the values at prefix t, and whether they stored something. Where no gap is wider than what either sum leaves, they ask nothing.
+fn column(
+    lowers: &mut [u16],
+    uppers: &mut [u16],
+    n: usize,
+    k: usize,
+    t: usize,
+) -> Result<bool, Crossed>
     requires { Fits n k lowers.old uppers.old × (t ≤ n) }
     ensures { Outcome (size n k) (Across n k t) lowers.old uppers.old lowers.new uppers.new result }
 {
     let sums = column_sums(lowers, uppers, n, k, t);
     if sums.gap + t <= sums.uppers && sums.gap + sums.lowers <= t {
-        return Sweep::Same;
+        return Ok(false);
     }
     narrow_column(lowers, uppers, n, k, t, sums.uppers, sums.lowers)
 }
 
-// The rules across the values at each prefix from `from` on and below `end`, one after the other.
+// The rules across the values at each prefix from `from` on and below `end`, one after the other, and whether they stored something.
 pub fn each_column(
     lowers: &mut [u16],
     uppers: &mut [u16],
@@ -107,27 +100,13 @@ pub fn each_column(
     k: usize,
     from: usize,
     end: usize,
-) -> Sweep
+) -> Result<bool, Crossed>
     requires { Fits n k lowers.old uppers.old × (from ≤ end) × (end ≤ n + 1) }
     ensures { Outcome (size n k) (Between n k from end) lowers.old uppers.old lowers.new uppers.new result }
 {
     let mut changed = false;
-    let mut t = from;
-    while t < end {
-        let r = column(lowers, uppers, n, k, t);
-        match r {
-            Sweep::Crossed => {
-                return Sweep::Crossed;
-            }
-            Sweep::Changed => {
-                changed = true;
-            }
-            Sweep::Same => {}
-        }
-        t += 1;
+    for t in from..end {
+        changed |= column(lowers, uppers, n, k, t)?;
     }
-    if changed {
-        return Sweep::Changed;
-    }
-    Sweep::Same
+    Ok(changed)
 }

@@ -7,9 +7,8 @@ ghost use Rattle.closing_model.specs.Table.{size};
 ghost use Rattle.closing_model.specs.Sweep.{Columns};
 ghost use Rattle.column_rules.specs.Answer.{Outcome, Fits, Between};
 
-use bands::{Banded, band};
-use column_rules::{Sweep, each_column};
-use stores::lesser;
+use bands::{Unfit, band};
+use column_rules::{Crossed, each_column};
 
 // The same at all of them at once where there are eight of them and their sums fit.
 fn some_columns(
@@ -19,50 +18,28 @@ fn some_columns(
     k: usize,
     from: usize,
     end: usize,
-) -> Sweep
+) -> Result<bool, Crossed>
     requires { Fits n k lowers.old uppers.old × (from ≤ end) × (end ≤ n + 1) }
     ensures { Outcome (size n k) (Between n k from end) lowers.old uppers.old lowers.new uppers.new result }
 {
     if from + 8 != end {
         return each_column(lowers, uppers, n, k, from, end);
     }
-    let r = band(lowers, uppers, n, k, from);
-    match r {
-        Banded::Same => {
-            return Sweep::Same;
-        }
-        Banded::Changed => {
-            return Sweep::Changed;
-        }
-        Banded::Unfit => {
-            return each_column(lowers, uppers, n, k, from, end);
-        }
+    match band(lowers, uppers, n, k, from) {
+        Ok(changed) => Ok(changed),
+        Err(Unfit) => each_column(lowers, uppers, n, k, from, end),
     }
 }
 
-// The rules across the values, at every prefix, eight at a time.
-pub fn columns(lowers: &mut [u16], uppers: &mut [u16], n: usize, k: usize) -> Sweep
+// The rules across the values, at every prefix, eight at a time, and whether they stored something.
+pub fn columns(lowers: &mut [u16], uppers: &mut [u16], n: usize, k: usize) -> Result<bool, Crossed>
     requires { Fits n k lowers.old uppers.old }
     ensures { Outcome (size n k) (Columns n k (n + 1)) lowers.old uppers.old lowers.new uppers.new result }
 {
     let mut changed = false;
-    let mut t = 0;
-    while t <= n {
-        let end = lesser(t + 8, n + 1);
-        let r = some_columns(lowers, uppers, n, k, t, end);
-        match r {
-            Sweep::Crossed => {
-                return Sweep::Crossed;
-            }
-            Sweep::Changed => {
-                changed = true;
-            }
-            Sweep::Same => {}
-        }
-        t = end;
+    for t in (0..n + 1).step_by(8) {
+        let end = (t + 8).min(n + 1);
+        changed |= some_columns(lowers, uppers, n, k, t, end)?;
     }
-    if changed {
-        return Sweep::Changed;
-    }
-    Sweep::Same
+    Ok(changed)
 }

@@ -1,13 +1,13 @@
--- A mask's tests as numbers and as equations, for `rise`, `tick` and `is_fixed`. No contract cites this file. Assumes nothing.
-use mathlib.Core.Path.{◌≡◌, refl, sym, ap, ◌∙◌}
+-- A mask's tests as numbers and as equations, for `rise`, `tick` and `corner_at`. No contract cites this file. Assumes nothing.
+use mathlib.Core.Path.{◌≡◌, refl, sym}
 use mathlib.Core.Logic.{dite}
-use Prim.Native.Nat.{ℕ, ◌*◌, ◌%◌, ◌^◌, ◌<◌}
-use native.Mathlib.Nat.{mod-eq_of_lt, one-mul}
+use Prim.Native.Nat.{ℕ, ◌^◌}
 use native.Mathlib.Decide.{ℕ_discrete}
 use native.Mathlib.Omega.{arith}
 use lib.Dec.{eqb}
-use lib.Pow.{pow-lt}
 use borrow.Author.Tests.{eq-eqb, ne_eqb}
+use mathlib.Core.Bool.{Bool, true, false}
+use mir.Val.{bool_byte as from_bool}
 use Rattle.domains.specs.Mask.{test_bit}
 use Rattle.domains.specs.Counts.{bit, only}
 use Rattle.domains.proofs.MaskLaws.{test_bit_lt}
@@ -21,9 +21,7 @@ pub bit_only : (m v : ℕ) → bit (eqb m (2 ^ v)) ≡ only m v
 unfolding only
 bit_only m v = refl
 
--- 1 moved up by v places, in 32 bits
-shifted : (v : ℕ) → v < 32 → 1 * 2 ^ v % 2 ^ 32 ≡ 2 ^ v
-shifted v v<32 = ap (λ (x : ℕ). x % 2 ^ 32) (one-mul (2 ^ v)) ∙ mod-eq_of_lt (pow-lt v<32)
-
-pub fixed_shifted : (m v : ℕ) → v < 32 → eqb m (1 * 2 ^ v % 2 ^ 32) ≡ eqb m (2 ^ v)
-fixed_shifted m v v<32 = ap (λ (x : ℕ). eqb m x) (shifted v v<32)
+-- the library's number of a `bool`
+pub from_bool_bit : (b : Bool) → from_bool b ≡ bit b
+from_bool_bit true = refl
+from_bool_bit false = refl

@@ -3,9 +3,8 @@
 // `specs/Turn.antt` and the definitions of segments_model.
 #![tactic(auto)]
 
-ghost use Rattle.std.specs.Prelude.{◌≡◌, ◌^◌, ◌<◌, ◌≤◌, eqb, length, get_or};
+ghost use Rattle.std.specs.Prelude.{◌≡◌, ◌<◌, ◌≤◌, length, get_or};
 ghost use Rattle.domains.specs.Mask.{test_bit};
-ghost use Rattle.domains.specs.Counts.{bit};
 ghost use Rattle.segments_model.specs.Build.{Counts};
 ghost use Rattle.segments_model.specs.Lines.{line_of, corner_of, tick};
 ghost use Rattle.corners.specs.Turn.{PreviousTurn, PreviousCorner};
@@ -23,13 +22,13 @@ pub fn corner_at(rises: &[u32], n: usize, v: u32, lower: bool, t: usize) -> bool
     requires { (0 < t) × (t ≤ n) × (n < length rises.now) × (v < 32) }
     ensures { result ≡ corner_of lower n (line_of rises.now v) t }
 {
-    if rise(rises, t, v) != one(lower) {
+    if rise(rises, t, v) != u32::from(lower) {
         return false;
     }
     if t == n {
         return true;
     }
-    rise(rises, t + 1, v) == one(!lower)
+    rise(rises, t + 1, v) == u32::from(!lower)
 }
 
 // The last corner before t, or 0.
@@ -38,8 +37,9 @@ pub fn previous_corner(rises: &[u32], n: usize, v: u32, lower: bool, t: usize) -
     ensures { PreviousCorner (corner_of lower n (line_of rises.now v)) t result }
 {
     let mut i = previous_turn(rises, v, t);
+    // a `while`: i goes from turn to turn, by no fixed step
     while 0 < i {
-        if rise(rises, i, v) == one(lower) {
+        if rise(rises, i, v) == u32::from(lower) {
             return i;
         }
         i = previous_turn(rises, v, i);
@@ -54,16 +54,11 @@ pub fn count_all(rises: &[u32], masks: &[u32], n: usize, v: u32, lower: bool) ->
 {
     let mut risen: u32 = 0;
     let mut counted: u32 = 0;
-    let mut t: usize = 0;
-    while t < n {
+    for t in 0..n {
         counted += tick(masks, t, v, lower);
-        t += 1;
-        risen += rise(rises, t, v);
+        risen += rise(rises, t + 1, v);
     }
-    Totals {
-        risen: risen,
-        counted: counted,
-    }
+    Totals { risen, counted }
 }
 
 // The line and the count at s, from those at t.
@@ -82,10 +77,8 @@ pub fn count_back(
 {
     let mut r = risen;
     let mut k = counted;
-    let mut i = t;
-    while s < i {
-        r -= rise(rises, i, v);
-        i -= 1;
+    for i in (s..t).rev() {
+        r -= rise(rises, i + 1, v);
         k -= tick(masks, i, v, lower);
     }
     Totals {
@@ -99,14 +92,12 @@ fn previous_turn(rises: &[u32], v: u32, t: usize) -> usize
     requires { (0 < t) × (t < length rises.now) × (v < 32) }
     ensures { PreviousTurn rises.now v t result }
 {
-    let mut i = t - 1;
-    while 0 < i {
+    for i in (1..t).rev() {
         if rise(rises, i, v) != rise(rises, i + 1, v) {
             return i;
         }
-        i -= 1;
     }
-    i
+    0
 }
 
 // By how much the line grows at t.
@@ -114,7 +105,7 @@ fn rise(rises: &[u32], t: usize, v: u32) -> u32
     requires { (t < length rises.now) × (v < 32) }
     ensures { result ≡ test_bit (get_or rises.now t 0) v }
 {
-    one(domains::has(rises[t], v))
+    u32::from(domains::has(rises[t], v))
 }
 
 // What the slot counts for the kind: whether it has v, or is fixed to v.
@@ -124,24 +115,7 @@ fn tick(masks: &[u32], slot: usize, v: u32, lower: bool) -> u32
 {
     let m = masks[slot];
     if lower {
-        return one(domains::has(m, v));
+        return u32::from(domains::has(m, v));
     }
-    one(is_fixed(m, v))
-}
-
-// Whether v is the only value of m.
-fn is_fixed(m: u32, v: u32) -> bool
-    requires { v < 32 }
-    ensures { result ≡ eqb m (2 ^ v) }
-{
-    m == 1 << v
-}
-
-fn one(b: bool) -> u32
-    ensures { result ≡ bit b }
-{
-    if b {
-        return 1;
-    }
-    0
+    u32::from(m == domains::only(v))
 }

@@ -6,7 +6,7 @@ use mathlib.Core.Logic.{dite}
 use mathlib.Core.Bool.{Bool, true, false, not, ◌&&◌, cond}
 use mathlib.Core.List.{List, [], ◌∷◌}
 use Prim.Native.Nat.{ℕ, ◌+◌, ◌*◌, ◌-◌, ◌^◌, ◌≤◌, ◌<◌}
-use native.Mathlib.Nat.{pow-suc, pow-le-pow_right}
+use native.Mathlib.Nat.{pow-suc}
 use native.Mathlib.Numerals.{add-one}
 use native.Mathlib.Decide.{ℕ_discrete, dec_lt}
 use native.Mathlib.Omega.{arith}
@@ -14,8 +14,10 @@ use lib.Dec.{eqb, lit<}
 use lib.ListN.{length, get_or, drop, drop_of_length-le, get_or-eq_default}
 use lib.Seq.{drop-cons}
 use borrow.Author.Tests.{eq-eqb, ne_eqb, lt-ltb, le-ltb, le-leb, lt-leb}
+use Rattle.std.specs.Prelude.{Some, None, Result, Ok, Err}
+use Rattle.answer.specs.declared.Refusal.{Refusal}
+use Rattle.answer.specs.declared.Refusal.TheVariants.{Quoting}
 use Rattle.csv_model.specs.declared.Figure.{Figure}
-use Rattle.csv_model.specs.declared.Ending.{Ending}
 use Rattle.csv_model.specs.declared.Ending.TheVariants.{Comma, Line}
 use Rattle.csv_model.specs.Rfc.{LF, CR, quote, comma, is_mark, is_digit}
 use Rattle.csv_model.specs.Csv.{nothing, no_number, more, Field, field_of, broken, ended, bare, quoted, field}
@@ -149,13 +151,13 @@ module _ (text : List ℕ) (at : ℕ) (f : Figure) where
       ap (quoted false f) (drop_here text at inside) ∙ shut_list f (get_or text at 0) (drop (at + 1) text)
       ∙ ap (λ (t : Bool). cond t (quoted true (more f quote) (drop (at + 1) text)) (ended f (get_or text at 0 ∷ drop (at + 1) text))) (eq-eqb _ _ is)
 
-width_plain : (text : List ℕ) (at : ℕ) → (get_or text at 0 ≡ quote → ⊥) → width_of text at ≡ 1
+width_plain : (text : List ℕ) (at : ℕ) → (get_or text at 0 ≡ quote → ⊥) → width_of text at ≡ Some 1
 width_plain text at other = rw (ne_eqb (get_or text at 0) quote other)
 
-width_double : (text : List ℕ) (at : ℕ) → get_or text at 0 ≡ quote → get_or text (at + 1) 0 ≡ quote → width_of text at ≡ 2
+width_double : (text : List ℕ) (at : ℕ) → get_or text at 0 ≡ quote → get_or text (at + 1) 0 ≡ quote → width_of text at ≡ Some 2
 width_double text at is next = rw (eq-eqb (get_or text at 0) quote is, eq-eqb (get_or text (at + 1) 0) quote next)
 
-width_closing : (text : List ℕ) (at : ℕ) → get_or text at 0 ≡ quote → (get_or text (at + 1) 0 ≡ quote → ⊥) → width_of text at ≡ 0
+width_closing : (text : List ℕ) (at : ℕ) → get_or text at 0 ≡ quote → (get_or text (at + 1) 0 ≡ quote → ⊥) → width_of text at ≡ None
 width_closing text at is next = rw (eq-eqb (get_or text at 0) quote is, ne_eqb (get_or text (at + 1) 0) quote next)
 
 -- a quote stands inside the text
@@ -164,40 +166,57 @@ quote_inside text at is =
     dite (dec_lt at (length text)) (λ inside. inside)
     (λ outside. let past : length text ≤ at = omega arith in let none = get_or-eq_default text 0 past in absurd (omega arith))
 
-module _ (text : List ℕ) {at w : ℕ} (inside : at < length text) (is : w ≡ width_of text at) where
+module _ (text : List ℕ) {at w : ℕ} (inside : at < length text) (is : Some w ≡ width_of text at) where
+  width_one : (get_or text at 0 ≡ quote → ⊥) → w ≡ 1
+  width_one q = let e : Some w ≡ Some 1 = is ∙ width_plain text at q in cc
+
+  width_two : get_or text at 0 ≡ quote → get_or text (at + 1) 0 ≡ quote → w ≡ 2
+  width_two q next = let e : Some w ≡ Some 2 = is ∙ width_double text at q next in cc
+
+  width_some : {A : Type 0} → get_or text at 0 ≡ quote → (get_or text (at + 1) 0 ≡ quote → ⊥) → A
+  width_some q next = let e : Some w ≡ None = is ∙ width_closing text at q next in absurd (cc)
+
   pub width_inside : at + w ≤ length text
   width_inside =
       dite (ℕ_discrete (get_or text at 0) quote)
       (λ q.
       dite (ℕ_discrete (get_or text (at + 1) 0) quote)
-      (λ next. let more = quote_inside text (at + 1) next in omega (arith, width_double text at q next))
-      (λ next. omega (arith, width_closing text at q next)))
-      (λ q. omega (arith, width_plain text at q))
+      (λ next. let more = quote_inside text (at + 1) next in omega (arith, width_two q next))
+      (λ next. width_some q next))
+      (λ q. omega (arith, width_one q))
 
-  pub quoted_more : (f : Figure) → (w ≡ 0 → ⊥) → quoted true f (drop at text) ≡ quoted true (more f (get_or text at 0)) (drop (at + w) text)
-  quoted_more f some =
+  -- a byte that is read takes one byte or two
+  pub width_further : at < at + w
+  width_further =
+      dite (ℕ_discrete (get_or text at 0) quote)
+      (λ q. dite (ℕ_discrete (get_or text (at + 1) 0) quote) (λ next. omega (arith, width_two q next)) (λ next. width_some q next))
+      (λ q. omega (arith, width_one q))
+
+  pub quoted_more : (f : Figure) → quoted true f (drop at text) ≡ quoted true (more f (get_or text at 0)) (drop (at + w) text)
+  quoted_more f =
       dite (ℕ_discrete (get_or text at 0) quote)
       (λ q.
       dite (ℕ_discrete (get_or text (at + 1) 0) quote)
       (λ next.
-      let two : at + 1 + 1 ≡ at + w = omega (arith, width_double text at q next) in
+      let two : at + 1 + 1 ≡ at + w = omega (arith, width_two q next) in
       at_quote text at f inside q ∙ shut_quote text (at + 1) f (quote_inside text (at + 1) next) next
       ∙ ap (λ (j : ℕ). quoted true (more f quote) (drop j text)) two ∙ ap (λ (b : ℕ). quoted true (more f b) (drop (at + w) text)) (sym q))
-      (λ next. absurd (some (is ∙ width_closing text at q next))))
+      (λ next. width_some q next))
       (λ q.
-      let one : at + 1 ≡ at + w = omega (arith, width_plain text at q) in
+      let one : at + 1 ≡ at + w = omega (arith, width_one q) in
       plain text at f inside q ∙ ap (λ (j : ℕ). quoted true (more f (get_or text at 0)) (drop j text)) one)
 
-  pub quoted_closed : (f : Figure) → w ≡ 0 → quoted true f (drop at text) ≡ ended f (drop (at + 1) text)
-  quoted_closed f none =
-      dite (ℕ_discrete (get_or text at 0) quote)
-      (λ q.
-      dite (ℕ_discrete (get_or text (at + 1) 0) quote)
-      (λ next. absurd (omega (arith, width_double text at q next)))
-      (λ next.
-      at_quote text at f inside q
-      ∙ dite (ℕ_discrete (at + 1) (length text)) (λ last. shut_end text (at + 1) f last) (λ before. shut_other text (at + 1) f (omega arith) next)))
-      (λ q. absurd (omega (arith, width_plain text at q)))
+pub quoted_closed : (text : List ℕ) {at : ℕ} → at < length text → None ≡ width_of text at → (f : Figure)
+    → quoted true f (drop at text) ≡ ended f (drop (at + 1) text)
+quoted_closed text {at} inside is f =
+    dite (ℕ_discrete (get_or text at 0) quote)
+    (λ q.
+    dite (ℕ_discrete (get_or text (at + 1) 0) quote)
+    (λ next. let e : None ≡ Some 2 = is ∙ width_double text at q next in absurd (cc))
+    (λ next.
+    at_quote text at f inside q
+    ∙ dite (ℕ_discrete (at + 1) (length text)) (λ last. shut_end text (at + 1) f last) (λ before. shut_other text (at + 1) f (omega arith) next)))
+    (λ q. let e : None ≡ Some 1 = is ∙ width_plain text at q in absurd (cc))
 
 -- ---- field
 quote_list : (b : ℕ) (s : List ℕ) → field (b ∷ s) ≡ cond (eqb b quote) (quoted true nothing s) (bare nothing (b ∷ s))
@@ -224,12 +243,6 @@ module _ (text : List ℕ) (at : ℕ) where
       ∙ ap (bare nothing) (sym (drop_here text at inside))
 
 -- ---- figures
-pub fits_small : {f : Figure} → FigureFits f → f.count < 5 → f.value < 10000
-fits_small {f = f} fits few =
-    let most : 10 ^ f.count ≤ 10 ^ 4 = (let few' : f.count ≤ 4 = omega arith in pow-le-pow_right (omega arith) few') in
-    let below = fits.below in
-    omega arith
-
 pub fits_more : {f g : Figure} (x : ℕ) → FigureFits f → x ≤ 9 → g.count ≡ f.count + 1 → g.value ≡ 10 * f.value + x → FigureFits g
 fits_more {f = f} {g = g} x fits digit count value =
     let power : 10 ^ g.count ≡ 10 ^ f.count * 10 = ap (λ (j : ℕ). 10 ^ j) (count ∙ add-one f.count) ∙ pow-suc 10 f.count in
@@ -237,24 +250,21 @@ fits_more {f = f} {g = g} x fits digit count value =
     record { below = omega arith }
 
 -- ---- PartOf
-pub found_made : {d : Field} {text : List ℕ} {f : Figure} {e : Ending} {next : ℕ} → d ≡ field_of f e (drop next text) → next ≤ length text
-    → PartOf d text (record { figure = f; ending = e; next = next })
-found_made is inside =
+pub found_made : {d : Field} {text : List ℕ} {f : Figure} (last : Bool) {next : ℕ} → d ≡ field_of f (cond last Line Comma) (drop next text)
+    → next ≤ length text → PartOf d text (Ok (record { figure = f; last = last; next = next }))
+found_made last is inside =
     record {
       figure = sym (ap (λ (x : Field). x.figure) is);
-      ending = sym (ap (λ (x : Field). x.ending) is);
+      ending = ap (λ (x : Field). x.ending) is;
       rest = sym (ap (λ (x : Field). x.rest) is);
       inside = inside;
     }
 
-pub found_same : {d d' : Field} {text : List ℕ} {p : Part} → d ≡ d' → PartOf d' text p → PartOf d text p
-found_same is found =
-    record {
-      figure = found.figure ∙ sym (ap (λ (x : Field). x.figure) is);
-      ending = found.ending ∙ sym (ap (λ (x : Field). x.ending) is);
-      rest = found.rest ∙ sym (ap (λ (x : Field). x.rest) is);
-      inside = found.inside;
-    }
+pub found_broken : {d : Field} (text : List ℕ) → d ≡ broken → PartOf d text (Err Quoting)
+found_broken text is = (refl, ap (λ (x : Field). x.ending) is)
+
+pub found_same : {d d' : Field} (text : List ℕ) (r : Result Part Refusal) → d ≡ d' → PartOf d' text r → PartOf d text r
+found_same text r is found = subst (λ (x : Field). PartOf x text r) (sym is) found
 
 -- ---- more
 pub more_digit : (f : Figure) (b : ℕ) → 48 ≤ b → b ≤ 57 → f.count < 5 → record { count = f.count + 1; value = 10 * f.value + (b - 48) } ≡ more f b
@@ -280,9 +290,6 @@ more_low f b low = rw (lt-leb 48 b low)
 pub fits_none : FigureFits no_number
 fits_none = record { below = lit< tt }
 
-pub fits_nothing : FigureFits nothing
-fits_nothing = record { below = lit< tt }
-
 -- ---- the loops
 -- what is read from `at` with figure f is what was to be read from `from`; inside quotes, and bare
 pub record Going (read : Figure → List ℕ → Field) (text : List ℕ) (from at : ℕ) (f : Figure) : Type 0 where
@@ -291,14 +298,6 @@ pub record Going (read : Figure → List ℕ → Field) (text : List ℕ) (from 
   pub same : read nothing (drop from text) ≡ read f (drop at text)
 
 module _ {read : Figure → List ℕ → Field} {text : List ℕ} {from : ℕ} where
-  pub going_start : {f : Figure} → from ≤ length text → f ≡ nothing → Going read text from from f
-  going_start inside is =
-      record {
-        inside = inside;
-        fits = subst (λ (g : Figure). FigureFits g) (sym is) fits_nothing;
-        same = ap (λ (g : Figure). read g (drop from text)) (sym is);
-      }
-
   pub going_more : {at to : ℕ} {f g g' : Figure} → Going read text from at f → to ≤ length text → FigureFits g
       → read f (drop at text) ≡ read g' (drop to text) → g ≡ g' → Going read text from to g
   going_more {to = to} going inside fits turn is =

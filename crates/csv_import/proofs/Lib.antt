@@ -2,4 +2,3 @@ mod FieldLaws
 mod RecordLaws
 mod PassLaws
 mod OrdersLaws
-mod EntryLaws

@@ -9,11 +9,12 @@ use native.Mathlib.Decide.{dec_lt}
 use native.Mathlib.Omega.{arith}
 use lib.ListN.{length, drop, length-drop}
 use lib.Seq.{sets, length-sets}
+use mathlib.Core.Bool.{true}
+use Rattle.std.specs.Prelude.{Result, Ok, Err}
+use Rattle.answer.specs.declared.Refusal.{Refusal}
 use Rattle.book.specs.declared.Row.{Row}
-use Rattle.book.specs.declared.Verdict.{Verdict}
-use Rattle.book.specs.declared.Verdict.TheVariants.{Good, TooShort, OutOfRange, UnknownIdle, WrongLayout, BadMask, BadRowValue, BadRowEnd, BadRowBound}
 use Rattle.book.specs.Refusal.{◌or_else◌, row_fault, number_of}
-use Rattle.book.proofs.RefusalLaws.{or_else_none, or_else_some, none_of_or_else}
+use Rattle.book.proofs.RefusalLaws.{or_else_none, or_else_some, none_of_or_else, some_number}
 use Rattle.book.specs.Lists.{All}
 use Rattle.elements.proofs.ElementsLaws.{sets_append}
 use Rattle.book_bytes.specs.BookBytes.{row_bytes, rows_bytes, RowFits}
@@ -22,8 +23,8 @@ use Rattle.csv_model.specs.Ordered.{rows_fault}
 use Rattle.csv_model.specs.Import.{record_fault, records_fault, row_of, rows_of_all}
 use Rattle.csv_model.proofs.CsvLaws.{record_shorter, later_none, later_some}
 use Rattle.csv_import.specs.declared.Read.{Read}
-use Rattle.csv_import.specs.Read.{fault_of, ReadOf}
-use Rattle.csv_import.proofs.RecordLaws.{read_fault, read_row}
+use Rattle.csv_import.specs.Read.{Kept, GoodOf}
+use Rattle.csv_import.proofs.RecordLaws.{read_row, sound_whole}
 use Rattle.csv_import.specs.Passes.{LaterOf}
 
 -- ---- lists of records
@@ -66,7 +67,20 @@ from_place text at = later (drop at text)
 pub later_end : (text : List ℕ) (at : ℕ) → length text ≤ at → from_place text at ≡ []
 later_end text at end = later_none (drop at text) (omega (arith, length-drop at text))
 
-module _ {text : List ℕ} {at : ℕ} {r : Read} (inside : at < length text) (read : ReadOf (record_of (drop at text)) text r) where
+-- the first of them, and its fault
+fault_first : (text : List ℕ) (at : ℕ) → at < length text
+    → records_fault 4 (from_place text at) ≡ record_fault 4 (record_of (drop at text)) or_else records_fault 4 (later (record_of (drop at text)).rest)
+fault_first text at inside =
+    ap (records_fault 4) (later_some (drop at text) (omega (arith, length-drop at text)))
+    ∙ records_fault_more 4 (record_of (drop at text)) (later (record_of (drop at text)).rest)
+
+-- where the records have no fault, the first has none
+sound_first : (text : List ℕ) (at : ℕ) → at < length text → records_fault 4 (from_place text at) ≡ 0 → record_fault 4 (record_of (drop at text)) ≡ 0
+sound_first text at inside sound =
+    (none_of_or_else (record_fault 4 (record_of (drop at text))) (records_fault 4 (later (record_of (drop at text)).rest))
+    (sym (fault_first text at inside) ∙ sound)).0
+
+module _ {text : List ℕ} {at : ℕ} {r : Read} (inside : at < length text) (read : Kept (record_of (drop at text)) text r) where
   pub later_read : from_place text at ≡ record_of (drop at text) ∷ from_place text r.next
   later_read =
       later_some (drop at text) (omega (arith, length-drop at text)) ∙ ap (λ (s : List ℕ). record_of (drop at text) ∷ later s) (sym read.rest)
@@ -79,26 +93,19 @@ module _ {text : List ℕ} {at : ℕ} {r : Read} (inside : at < length text) (re
       (λ some. let less = record_shorter (drop at text) some in omega (arith, length-drop at text, length-drop r.next text))
       (λ none. omega (arith, length-drop r.next text))
 
-  pub fault_here : records_fault 4 (from_place text at) ≡ fault_of 4 r or_else records_fault 4 (from_place text r.next)
-  fault_here =
-      ap (records_fault 4) later_read ∙ records_fault_more 4 (record_of (drop at text)) (from_place text r.next)
-      ∙ ap (λ (x : ℕ). x or_else records_fault 4 (from_place text r.next)) (sym (read_fault (record_of (drop at text)) text r read 4))
+  fault_here : records_fault 4 (from_place text at) ≡ record_fault 4 (record_of (drop at text)) or_else records_fault 4 (from_place text r.next)
+  fault_here = ap (records_fault 4) later_read ∙ records_fault_more 4 (record_of (drop at text)) (from_place text r.next)
 
-  -- where the records have no fault: this one has none, and those behind it have none; so the row that was read is the record's
+  -- where the records have no fault, those behind it have none, and the row that was read is the record's
   module _ (sound : records_fault 4 (from_place text at) ≡ 0) where
-    both : (fault_of 4 r ≡ 0) × (records_fault 4 (from_place text r.next) ≡ 0)
-    both = none_of_or_else (fault_of 4 r) (records_fault 4 (from_place text r.next)) (sym fault_here ∙ sound)
+    sound_next : records_fault 4 (from_place text r.next) ≡ 0
+    sound_next = (none_of_or_else (record_fault 4 (record_of (drop at text))) (records_fault 4 (from_place text r.next)) (sym fault_here ∙ sound)).1
 
-    pub sound_next : records_fault 4 (from_place text r.next) ≡ 0
-    sound_next = both.1
-
-    pub row_here : r.tally.last ≡ row_of (record_of (drop at text)).fields
-    row_here = read_row (record_of (drop at text)) text r read (sym (read_fault (record_of (drop at text)) text r read 4) ∙ both.0)
-
-    pub rows_here : rows_of_all (from_place text at) ≡ r.tally.last ∷ rows_of_all (from_place text r.next)
+    rows_here : rows_of_all (from_place text at) ≡ r.tally.last ∷ rows_of_all (from_place text r.next)
     rows_here =
         ap rows_of_all later_read ∙ rows_more (record_of (drop at text)) (from_place text r.next)
-        ∙ ap (λ (row : Row). row ∷ rows_of_all (from_place text r.next)) (sym row_here)
+        ∙ ap (λ (row : Row). row ∷ rows_of_all (from_place text r.next))
+        (sym (read_row (record_of (drop at text)) text r read (sound_first text at inside sound)))
 
 -- ---- the first pass
 pub record Testing (n k : ℕ) (text : List ℕ) (from at rows x : ℕ) : Type 0 where
@@ -109,27 +116,24 @@ pub record Testing (n k : ℕ) (text : List ℕ) (from at rows x : ℕ) : Type 0
   pub row : records_fault 4 (from_place text at) ≡ 0
       → x or_else rows_fault n k (rows_of_all (from_place text at)) ≡ rows_fault n k (rows_of_all (from_place text from))
 
-pub testing_start : {n k : ℕ} {text : List ℕ} {from : ℕ} → from ≤ length text → Testing n k text from from 0 0
-testing_start inside = record { inside = inside; few = omega arith; same = refl; count = omega arith; row = λ sound. refl }
-
 or_else_assoc : (x y z : ℕ) → (x or_else y) or_else z ≡ x or_else (y or_else z)
 or_else_assoc zero y z = refl
 or_else_assoc (suc x) y z = refl
 
 module _ {n k : ℕ} {text : List ℕ} {from at rows x : ℕ} {r : Read} (so_far : Testing n k text from at rows x) (inside : at < length text)
-    (read : ReadOf (record_of (drop at text)) text r) where
+    (good : GoodOf 4 (record_of (drop at text)) text (Ok r)) where
   row_first : records_fault 4 (from_place text at) ≡ 0
       → rows_fault n k (rows_of_all (from_place text at)) ≡ row_fault n k r.tally.last or_else rows_fault n k (rows_of_all (from_place text r.next))
-  row_first sound = ap (rows_fault n k) (rows_here inside read sound) ∙ rows_fault_more n k r.tally.last (rows_of_all (from_place text r.next))
+  row_first sound = ap (rows_fault n k) (rows_here inside good.0 sound) ∙ rows_fault_more n k r.tally.last (rows_of_all (from_place text r.next))
 
-  pub testing_more : {y : ℕ} → fault_of 4 r ≡ 0 → y ≡ x or_else row_fault n k r.tally.last → Testing n k text from r.next (rows + 1) y
-  testing_more none is =
-      let on = fault_here inside read ∙ or_else_none (fault_of 4 r) _ none in
+  pub testing_more : {y : ℕ} → y ≡ x or_else row_fault n k r.tally.last → Testing n k text from r.next (rows + 1) y
+  testing_more is =
+      let on = fault_here inside good.0 ∙ or_else_none (record_fault 4 (record_of (drop at text))) _ good.1 in
       record {
-        inside = read.inside;
-        few = omega (arith, next_further inside read, so_far.few);
+        inside = good.0.inside;
+        few = omega (arith, next_further inside good.0, so_far.few);
         same = sym on ∙ so_far.same;
-        count = omega (arith, ap length (later_read inside read), so_far.count);
+        count = omega (arith, ap length (later_read inside good.0), so_far.count);
         row =
             λ sound.
             let rest = rows_fault n k (rows_of_all (from_place text r.next)) in
@@ -137,40 +141,27 @@ module _ {n k : ℕ} {text : List ℕ} {from at rows x : ℕ} {r : Read} (so_far
             ∙ ap (λ (z : ℕ). x or_else z) (sym (row_first (on ∙ sound))) ∙ so_far.row (on ∙ sound);
       }
 
-  pub testing_refused : {y : ℕ} → y ≡ fault_of 4 r → (y ≡ 0 → ⊥) → LaterOf n k (from_place text from) (record { number = y; rows = 0; refused = 0 })
-  testing_refused is some =
-      record {
-        number = is ∙ sym (or_else_some (fault_of 4 r) _ (λ e. some (is ∙ e))) ∙ sym (fault_here inside read) ∙ so_far.same;
-        rows = λ none. absurd (some none);
-        refused = λ none. absurd (some none);
-      }
+pub testing_refused : {n k : ℕ} {text : List ℕ} {from at rows x : ℕ} → Testing n k text from at rows x → at < length text → (refusal : Refusal)
+    → GoodOf 4 (record_of (drop at text)) text (Err refusal) → LaterOf n k (from_place text from) (Err refusal)
+testing_refused {text = text} {at = at} so_far inside refusal is =
+    is ∙ sym (or_else_some (record_fault 4 (record_of (drop at text))) _ (λ e. some_number refusal (is ∙ e))) ∙ sym (fault_first text at inside)
+    ∙ so_far.same
 
 or_else_last : (x : ℕ) → x or_else 0 ≡ x
 or_else_last zero = refl
 or_else_last (suc x) = refl
 
-pub testing_all : {n k : ℕ} {text : List ℕ} {from at rows x : ℕ} → length text ≤ at → Testing n k text from at rows x
-    → LaterOf n k (from_place text from) (record { number = 0; rows = rows; refused = x })
-testing_all {n} {k} {text} {at = at} {x = x} end so_far =
+pub testing_all : {n k : ℕ} {text : List ℕ} {from at rows : ℕ} {refused : Result Unit Refusal} → length text ≤ at
+    → Testing n k text from at rows (number_of refused) → LaterOf n k (from_place text from) (Ok (record { rows = rows; refused = refused }))
+testing_all {n} {k} {text} {at = at} {refused = refused} end so_far =
     let none = later_end text at end in
     let sound : records_fault 4 (from_place text at) ≡ 0 = ap (records_fault 4) none ∙ records_fault_none 4 in
     let behind : rows_fault n k (rows_of_all (from_place text at)) ≡ 0 = ap (rows_fault n k) (ap rows_of_all none ∙ rows_none) ∙ rows_fault_none n k in
     record {
-      number = sym sound ∙ so_far.same;
-      rows = λ good. omega (arith, ap length none, so_far.count);
-      refused = λ good. sym (or_else_last x) ∙ ap (λ (z : ℕ). x or_else z) (sym behind) ∙ so_far.row sound;
+      sound = sym so_far.same ∙ sound;
+      rows = omega (arith, ap length none, so_far.count);
+      refused = sym (or_else_last (number_of refused)) ∙ ap (λ (z : ℕ). number_of refused or_else z) (sym behind) ∙ so_far.row sound;
     }
-
-pub number_of_le : (v : Verdict) → number_of v ≤ 8
-number_of_le Good = omega arith
-number_of_le TooShort = omega arith
-number_of_le OutOfRange = omega arith
-number_of_le UnknownIdle = omega arith
-number_of_le WrongLayout = omega arith
-number_of_le BadMask = omega arith
-number_of_le BadRowValue = omega arith
-number_of_le BadRowEnd = omega arith
-number_of_le BadRowBound = omega arith
 
 -- ---- the second pass
 pub record Writing (text : List ℕ) (from : ℕ) (out₀ : List ℕ) (first at : ℕ) (out : List ℕ) (place : ℕ) : Type 0 where
@@ -181,13 +172,13 @@ pub record Writing (text : List ℕ) (from : ℕ) (out₀ : List ℕ) (first at 
   pub room : place + 8 * length (rows_of_all (from_place text at)) ≤ length out₀
   pub same : sets out place (rows_bytes (rows_of_all (from_place text at))) ≡ sets out₀ first (rows_bytes (rows_of_all (from_place text from)))
 
-pub writing_start : {text : List ℕ} {from : ℕ} {out : List ℕ} {first : ℕ} → from ≤ length text → records_fault 4 (from_place text from) ≡ 0
-    → All RowFits (rows_of_all (from_place text from)) → first + 8 * length (rows_of_all (from_place text from)) ≤ length out
-    → Writing text from out first from out first
-writing_start inside sound fit room = record { inside = inside; sound = sound; fit = fit; long = refl; room = room; same = refl }
+-- the record that is read there is whole
+pub writing_whole : {text : List ℕ} {from : ℕ} {out₀ : List ℕ} {first at : ℕ} {out : List ℕ} {place : ℕ} → Writing text from out₀ first at out place
+    → at < length text → (record_of (drop at text)).whole ≡ true
+writing_whole {text} {at = at} so_far inside = sound_whole (record_of (drop at text)) 4 (sound_first text at inside so_far.sound)
 
 module _ {text : List ℕ} {from : ℕ} {out₀ : List ℕ} {first at : ℕ} {out : List ℕ} {place : ℕ} {r : Read} (so_far : Writing text from out₀ first at out place)
-    (inside : at < length text) (read : ReadOf (record_of (drop at text)) text r) where
+    (inside : at < length text) (read : Kept (record_of (drop at text)) text r) where
   rows_now : rows_of_all (from_place text at) ≡ r.tally.last ∷ rows_of_all (from_place text r.next)
   rows_now = rows_here inside read so_far.sound
 

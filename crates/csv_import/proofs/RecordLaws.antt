@@ -1,17 +1,21 @@
 -- The laws of `specs/Read.antt`. No contract cites this file. The ones that matter most: `counting_more`, `counting_line`, `counting_broken` (a turn of the
--- loop over the fields), `read_fault` (what the code tests is what csv_model's `record_fault` says), `read_row` and `read_head` (the numbers of a good record).
--- Assumes nothing.
-use mathlib.Core.Path.{◌≡◌, refl, sym, ap, ◌∙◌}
-use mathlib.Core.Logic.{dite}
-use mathlib.Core.Bool.{Bool, true, false, not, ◌&&◌, ◌||◌}
+-- loop over the fields), `read_sound`, `read_wrong`, `read_broken` (what the code tests is what csv_model's `record_fault` says), `read_row` and `read_head`
+-- (the numbers of a good record). Assumes nothing.
+use mathlib.Core.Path.{◌≡◌, refl, sym, ap, subst, ◌∙◌}
+use mathlib.Core.Bool.{Bool, true, false, not, ◌||◌, cond, true≢false}
 use mathlib.Core.List.{List, [], ◌∷◌}
 use Prim.Native.Nat.{ℕ, suc, ◌+◌, ◌≤◌, ◌<◌}
 use native.Mathlib.Numerals.{add-one}
 use native.Mathlib.Omega.{arith}
-use native.Mathlib.Decide.{dec_le}
-use lib.Dec.{eqb, ltb, lit<}
+use lib.Dec.{eqb, lit<}
 use lib.ListN.{length, drop, length-drop}
-use borrow.Author.Tests.{eqb-true, not-false, eq-eqb, ne_eqb, le-leb, lt-leb, le-ltb, lt-ltb}
+use borrow.Author.Tests.{eqb-true, not-false}
+use Rattle.std.specs.Prelude.{Result, Ok, Err}
+use Rattle.std.specs.Result.{IsOk}
+use Rattle.std.proofs.Common.{rules}
+use Rattle.answer.specs.Answer.{number_of}
+use Rattle.answer.specs.declared.Refusal.{Refusal}
+use Rattle.answer.specs.declared.Refusal.TheVariants.{Quoting}
 use Rattle.book.specs.Refusal.{fault}
 use Rattle.book.proofs.RefusalLaws.{none_of_or, none_of_or_else, fault_none}
 use Rattle.csv_model.specs.declared.Figure.{Figure}
@@ -20,10 +24,10 @@ use Rattle.csv_model.specs.Csv.{Record, field, record_of}
 use Rattle.csv_model.specs.Import.{bad_field, bad_fields, record_fault, said_at, row_of}
 use Rattle.csv_model.proofs.CsvLaws.{field_shorter, record_comma, record_line, record_broken}
 use Rattle.csv_import.specs.declared.Part.{Part}
-use Rattle.csv_import.specs.Part.{PartOf}
+use Rattle.csv_import.specs.Part.{Found}
 use Rattle.csv_import.specs.declared.Tally.{Tally}
 use Rattle.csv_import.specs.declared.Read.{Read}
-use Rattle.csv_import.specs.Read.{no_fields, added, tallied, fault_of, ReadOf}
+use Rattle.csv_import.specs.Read.{no_fields, added, tallied, fields_fault, Kept, ReadOf, GoodOf}
 
 -- ---- tallied
 tallied_more : (t : Tally) (f : Figure) (fs : List Figure) → tallied t (f ∷ fs) ≡ tallied (added t f) fs
@@ -80,15 +84,22 @@ fields_are x w none =
     let wrong = none_of_or (not (eqb (length x.fields) w)) (bad_fields 0 x.fields) (fault_none 18 _ (lit< tt) second) in
     eqb-true (length x.fields) w (not-false _ wrong.0)
 
-module _ (x : Record) (text : List ℕ) (r : Read) (read : ReadOf x text r) where
-  pub read_fault : (w : ℕ) → fault_of w r ≡ record_fault w x
+module _ (x : Record) (text : List ℕ) (r : Read) (read : Kept x text r) where
+  fields_fault_is : (w : ℕ) → fields_fault w r.tally ≡ record_fault w x
   unfolding record_fault
-  read_fault w =
+  fields_fault_is w =
       let count : r.tally.count ≡ length x.fields = ap (λ (t : Tally). t.count) read.tally ∙ tallied_count no_fields x.fields ∙ omega arith in
       let bad : r.tally.bad ≡ bad_fields 0 x.fields =
       ap (λ (t : Tally). t.bad) read.tally ∙ tallied_bad no_fields x.fields ∙ or_none (bad_fields 0 x.fields)
       in
       rw (read.whole, count, bad)
+
+  -- what the test of its fields says is what refuses it
+  pub read_sound : (w : ℕ) → 0 ≡ fields_fault w r.tally → GoodOf w x text (Ok r)
+  read_sound w none = (read, sym (none ∙ fields_fault_is w))
+
+  pub read_wrong : (w : ℕ) (refusal : Refusal) → number_of refusal ≡ fields_fault w r.tally → GoodOf w x text (Err refusal)
+  read_wrong w refusal is = is ∙ fields_fault_is w
 
   pub read_row : record_fault 4 x ≡ 0 → r.tally.last ≡ row_of x.fields
   read_row none = ap (λ (t : Tally). t.last) read.tally ∙ tallied_four x.fields (fields_are x 4 none)
@@ -97,6 +108,25 @@ module _ (x : Record) (text : List ℕ) (r : Read) (read : ReadOf x text r) wher
   read_head none =
       let both = tallied_two x.fields (fields_are x 2 none) in
       (ap (λ (t : Tally). t.last.lower) read.tally ∙ both.0, ap (λ (t : Tally). t.last.upper) read.tally ∙ both.1)
+
+-- a whole record is read
+pub whole_read : (x : Record) (text : List ℕ) (r : Result Read Refusal) → ReadOf x text r → x.whole ≡ true → IsOk r
+whole_read x text (Ok r) read whole = search rules
+whole_read x text (Err refusal) read whole = absurd (true≢false (sym whole ∙ read.1))
+
+pub kept_read : (x : Record) (text : List ℕ) {r : Result Read Refusal} {found : Read} → ReadOf x text r → r ≡ Ok found → Kept x text found
+kept_read x text read is = subst (λ (r : Result Read Refusal). ReadOf x text r) is read
+
+-- a broken record is refused, whatever it has
+pub read_broken : (x : Record) (w : ℕ) (text : List ℕ) {refusal : Refusal} → (refusal ≡ Quoting) × (x.whole ≡ false) → GoodOf w x text (Err refusal)
+unfolding record_fault
+read_broken x w text broken = rw (broken.0, broken.1)
+
+pub sound_whole : (x : Record) (w : ℕ) → record_fault w x ≡ 0 → x.whole ≡ true
+unfolding record_fault
+sound_whole x w none =
+    let first = (none_of_or_else (fault 17 (not x.whole)) (fault 18 (not (eqb (length x.fields) w) || bad_fields 0 x.fields)) none).0 in
+    not-false _ (fault_none 17 _ (lit< tt) first)
 
 -- ---- the loop over the fields
 -- the record from `at` with the fields tallied so far is the record from `from`
@@ -107,27 +137,20 @@ pub record Counting (text : List ℕ) (from at : ℕ) (t : Tally) : Type 0 where
   pub tally : tallied t (record_of (drop at text)).fields ≡ tallied no_fields (record_of (drop from text)).fields
   pub rest : (record_of (drop at text)).rest ≡ (record_of (drop from text)).rest
 
-pub counting_start : {text : List ℕ} {from : ℕ} {t : Tally} → from ≤ length text → t ≡ no_fields → Counting text from from t
-counting_start {text = text} {from = from} inside is =
-    record {
-      inside = inside;
-      few = omega (arith, ap (λ (x : Tally). x.count) is);
-      whole = refl;
-      tally = ap (λ (x : Tally). tallied x (record_of (drop from text)).fields) is;
-      rest = refl;
-    }
+module _ {text : List ℕ} {from at : ℕ} {t : Tally} {p : Part} (so_far : Counting text from at t) (found : Found (field (drop at text)) text p) where
+  ends_comma : p.last ≡ false → (field (drop at text)).ending ≡ Comma
+  ends_comma more = found.ending ∙ ap (λ (b : Bool). cond b Line Comma) more
 
-module _ {text : List ℕ} {from at : ℕ} {t : Tally} {p : Part} (so_far : Counting text from at t) (found : PartOf (field (drop at text)) text p) where
   -- behind a comma the place is further on
-  pub further : p.ending ≡ Comma → at < p.next
-  further ends =
-      let less = (field_shorter (drop at text)).comma (sym found.ending ∙ ends) in
+  pub further : p.last ≡ false → at < p.next
+  further more =
+      let less = (field_shorter (drop at text)).comma (ends_comma more) in
       let inside = so_far.inside in
       omega (arith, length-drop at text, length-drop p.next text, ap length found.rest)
 
-  pub counting_more : {t' : Tally} → p.ending ≡ Comma → t' ≡ added t p.figure → Counting text from p.next t'
+  pub counting_more : {t' : Tally} → p.last ≡ false → t' ≡ added t p.figure → Counting text from p.next t'
   counting_more ends more =
-      let here = record_comma (drop at text) (sym found.ending ∙ ends) in
+      let here = record_comma (drop at text) (ends_comma ends) in
       let on : record_of (field (drop at text)).rest ≡ record_of (drop p.next text) = ap record_of (sym found.rest) in
       let fields : tallied t (record_of (drop at text)).fields ≡ tallied (added t p.figure) (record_of (drop p.next text)).fields =
       ap (λ (r : Record). tallied t r.fields) here ∙ tallied_more t (field (drop at text)).figure (record_of (field (drop at text)).rest).fields
@@ -142,12 +165,12 @@ module _ {text : List ℕ} {from at : ℕ} {t : Tally} {p : Part} (so_far : Coun
         rest = sym (ap (λ (r : Record). r.rest) on) ∙ sym (ap (λ (r : Record). r.rest) here) ∙ so_far.rest;
       }
 
-  pub counting_line : {t' : Tally} → p.ending ≡ Line → t' ≡ added t p.figure
-      → ReadOf (record_of (drop from text)) text (record { whole = true; tally = t'; next = p.next })
+  pub counting_line : {t' : Tally} → p.last ≡ true → t' ≡ added t p.figure
+      → ReadOf (record_of (drop from text)) text (Ok (record { tally = t'; next = p.next }))
   counting_line ends more =
-      let here = record_line (drop at text) (sym found.ending ∙ ends) in
+      let here = record_line (drop at text) (found.ending ∙ ap (λ (b : Bool). cond b Line Comma) ends) in
       record {
-        whole = sym (ap (λ (r : Record). r.whole) here) ∙ so_far.whole;
+        whole = sym so_far.whole ∙ ap (λ (r : Record). r.whole) here;
         tally =
             more ∙ ap (added t) found.figure ∙ sym (tallied_none (added t (field (drop at text)).figure))
             ∙ sym (tallied_more t (field (drop at text)).figure []) ∙ sym (ap (λ (r : Record). tallied t r.fields) here) ∙ so_far.tally;
@@ -155,31 +178,7 @@ module _ {text : List ℕ} {from at : ℕ} {t : Tally} {p : Part} (so_far : Coun
         inside = found.inside;
       }
 
-  pub counting_broken : p.ending ≡ Broken → ReadOf (record_of (drop from text)) text (record { whole = false; tally = t; next = p.next })
-  counting_broken ends =
-      let here = record_broken (drop at text) (sym found.ending ∙ ends) in
-      record {
-        whole = sym (ap (λ (r : Record). r.whole) here) ∙ so_far.whole;
-        tally = sym (tallied_none t) ∙ sym (ap (λ (r : Record). tallied t r.fields) here) ∙ so_far.tally;
-        rest = found.rest ∙ sym (ap (λ (r : Record). r.rest) here) ∙ so_far.rest;
-        inside = found.inside;
-      }
-
--- ---- bad_field
-pub bad_field_empty : (i : ℕ) (f : Figure) → f.count ≡ 0 → not (eqb i 3) ≡ bad_field i f
-bad_field_empty i f empty = rw (lt-leb 1 f.count (omega arith), eq-eqb f.count 0 empty) (aux (eqb i 3))
-  where
-    aux : (t : Bool) → not t ≡ not (t && true)
-    aux true = refl
-    aux false = refl
-
-pub bad_field_full : (i : ℕ) (f : Figure) → (f.count ≡ 0 → ⊥) → ltb 5 f.count ≡ bad_field i f
-bad_field_full i f some =
-    rw (le-leb 1 f.count (omega arith), ne_eqb f.count 0 some)
-    (dite (dec_le f.count 5)
-    (λ few. simp (le-leb f.count 5 few, le-ltb 5 f.count few))
-    (λ many. simp (lt-leb f.count 5 (omega arith), lt-ltb 5 f.count (omega arith)) (aux (eqb i 3))))
-  where
-    aux : (t : Bool) → true ≡ not (t && false)
-    aux true = refl
-    aux false = refl
+pub counting_broken : {text : List ℕ} {from at : ℕ} {t : Tally} {refusal : Refusal} → Counting text from at t
+    → (refusal ≡ Quoting) × ((field (drop at text)).ending ≡ Broken) → ReadOf (record_of (drop from text)) text (Err refusal)
+counting_broken {text = text} {at = at} so_far broken =
+    (broken.0, sym so_far.whole ∙ ap (λ (r : Record). r.whole) (record_broken (drop at text) broken.1))

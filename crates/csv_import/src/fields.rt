@@ -1,12 +1,13 @@
 // The fields of a CSV text, one at a time: a place in the text goes in, and what was found comes back with the place behind it.
-// Nothing is refused here: a field that breaks RFC 4180 is found `Broken`. The contracts cite csv_model's `specs/Csv.antt` through `specs/Part.antt`.
+// A field that breaks RFC 4180 is refused, by 17. The contracts cite csv_model's `specs/Csv.antt` through `specs/Part.antt`.
 ghost use Rattle.std.specs.Prelude.{◌≡◌, true, ◌+◌, ◌<◌, ◌≤◌, length, drop};
 ghost use Rattle.csv_model.specs.Csv as Csv;
 ghost use Rattle.csv_model.specs.Rfc.{is_mark};
 ghost use Rattle.csv_import.specs.Part.{FigureFits, PartOf, width_of};
 
 use crate::{DIGITS_MOST, Part};
-use csv_model::{Ending, Figure};
+use answer::Refusal;
+use csv_model::Figure;
 
 const LF: u8 = 10;
 
@@ -21,7 +22,7 @@ const ZERO: u8 = 48;
 const NINE: u8 = 57;
 
 // The field that begins at a place.
-pub fn field(text: &[u8], at: usize) -> Part
+pub fn field(text: &[u8], at: usize) -> Result<Part, Refusal>
     requires { at ≤ length text.now }
     ensures { PartOf (Csv.field (drop at text.now)) text.now result }
 {
@@ -35,100 +36,88 @@ pub fn field(text: &[u8], at: usize) -> Part
 }
 
 // A field without quotes: it goes to the next mark or to the end.
-fn bare(text: &[u8], from: usize) -> Part
+fn bare(text: &[u8], from: usize) -> Result<Part, Refusal>
     requires { from ≤ length text.now }
     ensures { PartOf (Csv.bare Csv.nothing (drop from text.now)) text.now result }
 {
-    let mut at = from;
     let mut figure = nothing();
-    while at < text.len() {
+    for at in from..text.len() {
         let b = text[at];
         if is_mark(b) {
             return ended(text, at, figure);
         }
         figure = more(figure, b);
-        at += 1;
     }
-    ended(text, at, figure)
+    ended(text, text.len(), figure)
 }
 
 // A quoted field, from behind its first quote: it goes to the quote that no second one follows.
-fn quoted(text: &[u8], from: usize) -> Part
+fn quoted(text: &[u8], from: usize) -> Result<Part, Refusal>
     requires { from ≤ length text.now }
     ensures { PartOf (Csv.quoted true Csv.nothing (drop from text.now)) text.now result }
 {
     let mut at = from;
     let mut figure = nothing();
+    // A `while`, since a doubled quote takes two bytes.
     while at < text.len() {
-        let width = width(text, at);
-        if width == 0 {
-            return ended(text, at + 1, figure);
+        match width(text, at) {
+            Some(width) => {
+                figure = more(figure, text[at]);
+                at += width;
+            }
+            None => return ended(text, at + 1, figure),
         }
-        figure = more(figure, text[at]);
-        at += width;
     }
-    broken(text)
+    Err(Refusal::Quoting)
 }
 
-// How many bytes the content byte at a place takes inside quotes: 2 for a doubled quote, 0 for the quote that closes.
-fn width(text: &[u8], at: usize) -> usize
+// How many bytes the content byte at a place takes inside quotes: 2 for a doubled quote. None where it is the quote that closes.
+fn width(text: &[u8], at: usize) -> Option<usize>
     requires { at < length text.now }
     ensures { result ≡ width_of text.now at }
 {
     if text[at] != QUOTE {
-        return 1;
+        return Some(1);
     }
     if text.len() - at < 2 {
-        return 0;
+        return None;
     }
-    if text[at + 1] == QUOTE { 2 } else { 0 }
+    if text[at + 1] == QUOTE { Some(2) } else { None }
 }
 
 // The field with this figure whose content ends at a place.
-fn ended(text: &[u8], at: usize, figure: Figure) -> Part
+fn ended(text: &[u8], at: usize, figure: Figure) -> Result<Part, Refusal>
     requires { (at ≤ length text.now) × FigureFits figure }
     ensures { PartOf (Csv.ended figure (drop at text.now)) text.now result }
 {
     if at == text.len() {
-        return Part {
+        return Ok(Part {
             figure,
-            ending: Ending::Line,
+            last: true,
             next: at,
-        };
+        });
     }
     if text[at] == COMMA {
-        return Part {
+        return Ok(Part {
             figure,
-            ending: Ending::Comma,
+            last: false,
             next: at + 1,
-        };
+        });
     }
     if text.len() - at < 2 {
-        return broken(text);
+        return Err(Refusal::Quoting);
     }
     if text[at] != CR {
-        return broken(text);
+        return Err(Refusal::Quoting);
     }
     if text[at + 1] != LF {
-        return broken(text);
+        return Err(Refusal::Quoting);
     }
-    Part {
+    Ok(Part {
         figure,
-        ending: Ending::Line,
+        last: true,
         next: at + 2,
-    }
-}
-
-// A field that breaks RFC 4180.
-fn broken(text: &[u8]) -> Part
-    ensures { PartOf Csv.broken text.now result }
-{
-    let figure = nothing();
-    Part {
-        figure,
-        ending: Ending::Broken,
-        next: text.len(),
-    }
+    })
 }
 
 // The figure of an empty content.
@@ -143,15 +132,11 @@ fn more(figure: Figure, b: u8) -> Figure
     requires { FigureFits figure }
     ensures { (result ≡ Csv.more figure b) × FigureFits result }
 {
-    if ZERO <= b {
-        if b <= NINE {
-            if figure.count < DIGITS_MOST {
-                return Figure {
-                    count: figure.count + 1,
-                    value: 10 * figure.value + (b - ZERO) as usize,
-                };
-            }
-        }
+    if ZERO <= b && b <= NINE && figure.count < DIGITS_MOST {
+        return Figure {
+            count: figure.count + 1,
+            value: 10 * figure.value + usize::from(b - ZERO),
+        };
     }
     Figure { count: 6, value: 0 }
 }
@@ -160,14 +145,5 @@ fn more(figure: Figure, b: u8) -> Figure
 fn is_mark(b: u8) -> bool
     ensures { result ≡ is_mark b }
 {
-    if b == COMMA {
-        return true;
-    }
-    if b == CR {
-        return true;
-    }
-    if b == LF {
-        return true;
-    }
-    b == QUOTE
+    b == COMMA || b == CR || b == LF || b == QUOTE
 }

@@ -1,15 +1,17 @@
 // One record of a CSV text: its fields are read to its end, and what the numbers 17 and 18 ask of it and the row that it says are kept.
 // The contracts cite csv_model's `specs/Csv.antt` and `specs/Import.antt` through `specs/Read.antt`.
 ghost use Rattle.std.specs.Prelude.{◌≡◌, ◌<◌, ◌≤◌, length, drop};
+ghost use Rattle.book.specs.Refusal.{number_of};
 ghost use Rattle.csv_model.specs.Csv.{record_of};
 ghost use Rattle.csv_model.specs.Import as Import;
 ghost use Rattle.book_bytes.specs.BookBytes.{order_row};
-ghost use Rattle.csv_import.specs.Read.{no_fields, added, fault_of, ReadOf};
+ghost use Rattle.csv_import.specs.Read.{no_fields, added, fields_fault, GoodOf, ReadOf};
 
 use crate::fields::field;
 use crate::{DIGITS_MOST, Read, Tally};
+use answer::Refusal;
 use book::Row;
-use csv_model::{Ending, Figure};
+use csv_model::Figure;
 
 // The place of the upper in a later record.
 const UPPER: usize = 3;
@@ -17,64 +19,53 @@ const UPPER: usize = 3;
 // The upper of a row that has none.
 const NO_UPPER: usize = 65535;
 
-// The record that begins at a place.
-pub fn read_record(text: &[u8], from: usize) -> Read
+// The record that begins at a place, which is to have some fields: refused by 17 or 18.
+pub fn read_good(text: &[u8], from: usize, fields: usize) -> Result<Read, Refusal>
+    requires { from ≤ length text.now }
+    ensures { GoodOf fields (record_of (drop from text.now)) text.now result }
+{
+    let read = read_record(text, from)?;
+    check_fields(read.tally, fields)?;
+    Ok(read)
+}
+
+// The record that begins at a place: refused by 17.
+pub fn read_record(text: &[u8], from: usize) -> Result<Read, Refusal>
     requires { from ≤ length text.now }
     ensures { ReadOf (record_of (drop from text.now)) text.now result }
 {
     let mut at = from;
     let mut tally = no_fields();
     loop {
-        let part = field(text, at);
-        let ending = part.ending;
-        let figure = part.figure;
-        let next = part.next;
-        match ending {
-            Ending::Comma => {
-                tally = add(tally, figure);
-                at = next;
-            }
-            Ending::Line => {
-                let all = add(tally, figure);
-                return Read {
-                    whole: true,
-                    tally: all,
-                    next,
-                };
-            }
-            Ending::Broken => {
-                return Read {
-                    whole: false,
-                    tally,
-                    next,
-                };
-            }
+        let part = field(text, at)?;
+        tally = add(tally, part.figure);
+        if part.last {
+            return Ok(Read {
+                tally,
+                next: part.next,
+            });
         }
+        at = part.next;
     }
 }
 
-// Number 17 or 18 of a record that is to have some fields, 0 where neither refuses it.
-pub fn fault(read: Read, fields: usize) -> u8
-    ensures { result ≡ fault_of fields read }
+// Whether there are so many fields, and each is good at its place: refused by 18.
+fn check_fields(tally: Tally, fields: usize) -> Result<(), Refusal>
+    ensures { number_of result ≡ fields_fault fields tally }
 {
-    if !read.whole {
-        return 17;
+    if tally.count != fields || tally.bad {
+        return Err(Refusal::Field);
     }
-    let tally = read.tally;
-    if tally.count != fields {
-        return 18;
-    }
-    if tally.bad { 18 } else { 0 }
+    Ok(())
 }
 
 fn no_fields() -> Tally
     ensures { result ≡ no_fields }
 {
-    let last = order_row(0, 0, 0, 0);
     Tally {
         count: 0,
         bad: false,
-        last,
+        last: order_row(0, 0, 0, 0),
     }
 }
 
@@ -84,19 +75,10 @@ fn add(tally: Tally, figure: Figure) -> Tally
     ensures { result ≡ added tally figure }
 {
     let row = tally.last;
-    let last = order_row(row.end, row.lower, row.upper, said(figure));
-    let bad = bad_field(tally.count, figure);
-    if bad {
-        return Tally {
-            count: tally.count + 1,
-            bad: true,
-            last,
-        };
-    }
     Tally {
         count: tally.count + 1,
-        bad: tally.bad,
-        last,
+        bad: bad_field(tally.count, figure) || tally.bad,
+        last: order_row(row.end, row.lower, row.upper, said(figure)),
     }
 }
 

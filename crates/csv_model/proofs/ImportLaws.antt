@@ -140,7 +140,8 @@ module _ (limits : Limits) (n k : ℕ) (rs : List Row) (small : LimitsFit limits
   book_says = book_length_of_lem n k 0 (full_masks n k) rs fits ∙ sym book_length_lem
 
 -- the length of an accepted text's book
-pub length_book_of : (limits : Limits) (s : List ℕ) (len : ℕ) → LimitsFit limits → Accepted limits (records s) len → length (book_of s) ≡ book_length_of (records s)
+pub length_book_of : (limits : Limits) (s : List ℕ) (len : ℕ) → LimitsFit limits → Accepted limits (records s) len
+    → length (book_of s) ≡ book_length_of (records s)
 unfolding book_of
 length_book_of limits s len small ok = book_length_lem limits (slots_of (records s)) (values_of (records s)) (rows_of (records s)) small ok.orderly
 

@@ -22,7 +22,8 @@ use Rattle.closing_model.specs.Closing.{closing}
 use Rattle.book_bytes.specs.BookBytes.{book_bytes, LimitsFit, full_masks}
 use Rattle.csv_model.specs.Rfc.{RecordAt, TextOf, last, followed, Unreadable}
 use Rattle.csv_model.specs.Csv.{figure_from, figure_of, figures, Record, broken_record, record_of, records, later}
-use Rattle.csv_model.specs.Import.{is_number, bad_field, bad_fields, record_fault, records_fault, said, said_at, slots_of, values_of, row_of, rows_of_all, rows_of}
+use Rattle.csv_model.specs.Import.{is_number, bad_field, bad_fields, record_fault, records_fault, said, said_at}
+use Rattle.csv_model.specs.Import.{slots_of, values_of, row_of, rows_of_all, rows_of}
 use Rattle.csv_model.specs.Ordered.{rows_fault, orders_fault}
 use Rattle.csv_model.specs.Import.{records_refusal, csv_fault, book_of}
 use Rattle.csv_model.specs.Meaning.{decimal, IsNumber, GoodField, GoodFields, GoodRecord, GoodRecords, Past, here, behind, said_by, said_inside, slots_in}
@@ -241,7 +242,8 @@ broken_fault limits s len w t past none =
 wrong_fault : (limits : Limits) (s : List ℕ) (len w : ℕ) (t : List ℕ) {cs : List (List ℕ)} {r : List ℕ} → Past 2 s w t → RecordAt t cs r
     → (GoodRecord w cs → ⊥) → csv_fault limits s len ≡ 18
 wrong_fault limits s len w t past at not_Good =
-    first_fault limits s len 17 (past_fault past ∙ faults w t ∙ ap (λ (y : ℕ). y or_else records_fault 4 (later (record_of t).rest)) (fault_wrong w at not_Good))
+    first_fault limits s len 17
+    (past_fault past ∙ faults w t ∙ ap (λ (y : ℕ). y or_else records_fault 4 (later (record_of t).rest)) (fault_wrong w at not_Good))
 
 module _ (limits : Limits) (len : ℕ) {s : List ℕ} {rs : List (List (List ℕ))} (text : TextOf s rs) (good : GoodRecords 2 rs) where
   abbrev n : ℕ

@@ -31,37 +31,32 @@ pub fn decide(
         masks.new cells.new trail.new heights.now result }
 {
     let top = session.top;
-    let marks = session.marks;
-    let idle = session.idle;
     let outcome = cut_slot(masks, cells, trail, n, k, top, slot, v, assign);
     match outcome {
         Outcome::Live(h) => {
-            let count = struck(trail, n, top, h, idle);
+            let count = struck(trail, n, top, h, session.idle);
             let live = Session {
                 standing: Standing::Live,
                 top: h,
-                marks,
-                idle,
+                ..session
             };
-            return Stepped {
+            Stepped {
                 session: live,
                 first: 0,
                 second: count,
-            };
+            }
         }
         Outcome::Dead(h) => {
             undo(masks, cells, trail, n, k, top, h);
             let dead = Session {
                 standing: Standing::Dead(i),
-                top,
-                marks,
-                idle,
+                ..session
             };
-            return Stepped {
+            Stepped {
                 session: dead,
                 first: 1,
                 second: 0,
-            };
+            }
         }
     }
 }

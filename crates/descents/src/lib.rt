@@ -8,7 +8,8 @@ ghost use Rattle.filter_model.specs.Strike.{Dropped};
 ghost use Rattle.descents.specs.Told.{Told};
 
 // A row's fall: that it cannot be; the end before which all must be settled, or 0; and the tag and the note by which the fall is taken back. Where
-// there is such an end, the note is the one before which all was to be settled already.
+// there is such an end, the note is the one before which all was to be settled already. A flag and no Option: `strikes::strike_one` looks at both spent
+// corners before it lets either row fall, so an Option would want two arms there for a None that never comes.
 #[derive(Clone, Copy)]
 pub struct Descent {
     pub clash: bool,
@@ -22,7 +23,7 @@ pub fn spent(cells: &[u16], row: u32, n: usize) -> usize
     requires { row * (n + 2) + n + 1 < length cells.now }
     ensures { result ≡ get_or cells.now (row * (n + 2)) 0 }
 {
-    wide(cells[row as usize * (n + 2)])
+    cells[row as usize * (n + 2)] as usize
 }
 
 // Lowers the slack of a row by one after the slot; where the slot is before the spent corner that is a clash, and the cells stay.
@@ -34,7 +35,8 @@ pub fn fall_row(cells: &mut [u16], row: u32, n: usize, slot: usize) -> Descent
     let hit = segments::fall_in(cells, row as usize * (n + 2), n, slot);
     match hit {
         segments::Hit::Lowered(t) => {
-            let g = first_end(t);
+            // the tag: 1 for the first right end, else 0
+            let g = 2usize.saturating_sub(t);
             return fell_by(false, 0, g, t + g - 2);
         }
         segments::Hit::Still => {
@@ -50,17 +52,6 @@ pub fn fall_row(cells: &mut [u16], row: u32, n: usize, slot: usize) -> Descent
             return fell_by(false, up_to(n, t), 3, z);
         }
     }
-}
-
-// The tag of a lowered right end t: 1 for the first, else 0.
-fn first_end(t: usize) -> usize
-    requires { 0 < t }
-    ensures { result ≡ 2 - t }
-{
-    if t < 2 {
-        return 1usize;
-    }
-    0
 }
 
 // t, or 0 where it is after n.
@@ -83,10 +74,4 @@ fn fell_by(clash: bool, reach: usize, tag: usize, note: usize) -> Descent
         tag,
         note,
     }
-}
-
-fn wide(x: u16) -> usize
-    ensures { result ≡ x }
-{
-    x as usize
 }

@@ -1,69 +1,81 @@
-// Books and call lists as bytes, by document 01's layout. What would stand outside the slice is left out, so that nothing here has a premise.
+// Books and call lists as bytes, by the layout of docs/SPECIFICATION.md. What would lie outside the array is left out, so that nothing here has a premise.
 
-// The byte x at i.
-pub fn put(a: &mut [u8], i: usize, x: u8) {
-    if i < a.len() {
-        a[i] = x;
+// The bytes of a book's header.
+pub const HEADER: usize = 12;
+
+// A row of a book.
+#[derive(Clone, Copy)]
+pub struct Row {
+    pub value: u8,
+    pub end: u16,
+    pub lower: u16,
+    pub upper: u16,
+}
+
+impl Row {
+    fn to_bytes(self) -> [u8; 8] {
+        let [e0, e1] = self.end.to_le_bytes();
+        let [l0, l1] = self.lower.to_le_bytes();
+        let [u0, u1] = self.upper.to_le_bytes();
+        [self.value, 0, e0, e1, l0, l1, u0, u1]
     }
 }
 
-// x at i, in 2 bytes.
-pub fn put16(a: &mut [u8], i: u32, x: u32) {
-    let at = i as usize;
-    put(a, at, (x % 256) as u8);
-    put(a, at + 1, (x / 256 % 256) as u8);
+// A call of a list.
+#[derive(Clone, Copy)]
+pub struct Call {
+    // a number and no enum, since the cases make calls of unknown kinds too
+    pub kind: u8,
+    pub value: u8,
+    pub slot: u16,
 }
 
-// x at i, in 4 bytes.
-pub fn put32(a: &mut [u8], i: u32, x: u32) {
-    let at = i as usize;
-    put(a, at, (x % 256) as u8);
-    put(a, at + 1, (x / 256 % 256) as u8);
-    put(a, at + 2, (x / 65536 % 256) as u8);
-    put(a, at + 3, (x / 16777216) as u8);
+impl Call {
+    pub fn to_bytes(self) -> [u8; 4] {
+        let [s0, s1] = self.slot.to_le_bytes();
+        [self.kind, self.value, s0, s1]
+    }
+}
+
+// The bytes at at.
+pub fn put(a: &mut [u8], at: usize, bytes: &[u8]) {
+    for (place, x) in a.iter_mut().skip(at).zip(bytes) {
+        *place = *x;
+    }
 }
 
 // The header of a book of n slots, k types and r rows.
-pub fn put_header(a: &mut [u8], n: u16, k: u8, r: u16) {
-    let rows = 12 + 4 * n as u32;
-    put16(a, 0, n as u32);
-    put(a, 2, k);
-    put(a, 3, 0);
-    put16(a, 4, r as u32);
-    put16(a, 6, 12);
-    put16(a, 8, rows);
-    put16(a, 10, rows + 8 * r as u32);
+pub fn put_header(book: &mut [u8], n: u16, k: u8, r: u16) {
+    let masks = HEADER as u32;
+    let rows = masks + 4 * u32::from(n);
+    let end = rows + 8 * u32::from(r);
+    let fields = [n, u16::from(k), r, short(masks), short(rows), short(end)];
+    for (i, field) in fields.iter().enumerate() {
+        put(book, 2 * i, &field.to_le_bytes());
+    }
 }
 
 // n masks m.
-pub fn put_masks(a: &mut [u8], n: u16, m: u32) {
-    for s in 0..n {
-        put32(a, 12 + 4 * s as u32, m);
+pub fn put_masks(book: &mut [u8], n: u16, m: u32) {
+    for s in 0..usize::from(n) {
+        put(book, HEADER + 4 * s, &m.to_le_bytes());
     }
 }
 
 // Row i of a book of n slots.
-pub fn put_row(a: &mut [u8], n: u16, i: u16, v: u8, end: u32, lower: u32, upper: u32) {
-    let at = 12 + 4 * n as u32 + 8 * i as u32;
-    put(a, at as usize, v);
-    put(a, at as usize + 1, 0);
-    put16(a, at + 2, end);
-    put16(a, at + 4, lower);
-    put16(a, at + 6, upper);
+pub fn put_row(book: &mut [u8], n: u16, i: u16, row: Row) {
+    let at = HEADER + 4 * usize::from(n) + 8 * usize::from(i);
+    put(book, at, &row.to_bytes());
 }
 
-// Rows 0 to r - 1 of a book of 256 slots and 32 types: row i is of type i % 32 and, for j = i / 32 + 1, has end 8j and upper j.
-pub fn put_grid(a: &mut [u8], r: u16) {
-    for i in 0..r {
-        let j = i as u32 / 32 + 1;
-        put_row(a, 256, i, (i % 32) as u8, 8 * j, 0, j);
-    }
+// `byte` and `short` stay two: `as` goes to a type by its name, and no trait of std cuts a number short.
+
+// The lowest 8 bits.
+pub fn byte(x: u32) -> u8 {
+    (x % 256) as u8
 }
 
-// Call i of a list.
-pub fn put_call(a: &mut [u8], i: u16, kind: u8, v: u8, slot: u32) {
-    let at = 4 * i as u32;
-    put(a, at as usize, kind);
-    put(a, at as usize + 1, v);
-    put16(a, at + 2, slot);
+// The lowest 16 bits.
+pub fn short(x: u32) -> u16 {
+    (x % 65536) as u16
 }

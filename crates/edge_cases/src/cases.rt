@@ -1,158 +1,168 @@
-// The words that make the book and the call list of a line:
+// The book and the call list of a line, and the words that make them:
 //   sample                         a book of 3 slots and 2 types, masks 3 3 3, with one row of type 0: end 2, lower 1, no upper
 //   book n k r m                   a book of n slots, k types and r rows that are zeros, each mask m
 //   row i type end lower upper     row i
-//   grid r                         r rows by `put_grid`
+//   grid r                         r rows of a book of 256 slots: row i is of type i % 32 and, for j = i / 32 + 1, has end 8j and upper j
 //   put w i x                      x in w bytes (1, 2 or 4) at i
 //   lend x                         only the first x bytes of the book are lent, or more than it has
 //   call kind type slot            a call at the list's end
 //   repeat c kind                  c calls of that kind there, with type 0 and slot 0
 //   trim x                         only the first x bytes of the list are lent
-use crate::bytes::{put, put_call, put_grid, put_header, put_masks, put_row, put16, put32};
-use crate::scan::{argument, begins_word, is_word};
+ghost use Rattle.std.specs.Prelude.{◌≡◌, ◌<◌, length, take, MatchOption};
 
-// What a line has made so far, beside the bytes.
-#[derive(Clone, Copy)]
+use crate::bytes::{Call, HEADER, Row, byte, put, put_header, put_masks, put_row, short};
+use crate::scan::{Command, Line, Make, Step};
+
+// The most slots and types of a book, and a row more than the most.
+const SLOTS: u16 = 256;
+
+const TYPES: u16 = 32;
+
+const ROWS: usize = 1025;
+
+// Room for the largest book with a row too many, and for one call more than the most.
+const BOOK_BYTES: usize = HEADER + 4 * SLOTS as usize + 8 * ROWS;
+
+const CALLS_BYTES: usize = 4 * 4097;
+
+#[derive(Drop)]
 pub struct Case {
+    book: [u8; BOOK_BYTES],
+    calls: [u8; CALLS_BYTES],
     // n of the book
-    pub slots: u16,
+    slots: u16,
     // bytes of the book that are lent
-    pub length: usize,
+    length: usize,
     // bytes of the call list that are lent
-    pub listed: usize,
+    listed: usize,
 }
 
-// Carries out each such word of the line after from.
-pub fn build(line: &[u8], from: usize, book: &mut [u8], calls: &mut [u8]) -> Case {
-    let mut case = Case {
-        slots: 0,
-        length: 0,
-        listed: 0,
-    };
-    for at in from..line.len() {
-        if !begins_word(line, at) {
-            continue;
+impl Case {
+    // What the line's words make.
+    pub fn build(line: Line<'_>) -> Case {
+        let mut case = Case {
+            book: [0; BOOK_BYTES],
+            calls: [0; CALLS_BYTES],
+            slots: 0,
+            length: 0,
+            listed: 0,
+        };
+        for step in line.steps() {
+            if let Some(Command::Make(make)) = step.command() {
+                case.apply(make, step);
+            }
         }
-        case = build_book(line, at, case, book);
-        case = build_calls(line, at, case, calls);
+        case
     }
-    case
-}
 
-// Carries out the word at at, if it makes the book.
-fn build_book(line: &[u8], at: usize, case: Case, book: &mut [u8]) -> Case {
-    if is_word(line, at, b's', b'm') {
-        return new_sample(case, book);
+    // The bytes of the book that are lent; None where it has fewer.
+    pub fn book(&self) -> Option<&[u8]>
+        ensures { MatchOption result (length self.now.book < self.now.length) (λ lent. lent.now ≡ take self.now.length self.now.book) }
+    {
+        self.book.get(..self.length)
     }
-    if is_word(line, at, b'b', b'o') {
-        return new_book(line, at, case, book);
-    }
-    if is_word(line, at, b'r', b'w') {
-        return new_row(line, at, case, book);
-    }
-    if is_word(line, at, b'g', b'i') {
-        put_grid(book, short(argument(line, at, 1)));
-        return case;
-    }
-    if is_word(line, at, b'p', b't') {
-        return new_bytes(line, at, case, book);
-    }
-    if is_word(line, at, b'l', b'n') {
-        let mut made = case;
-        made.length = argument(line, at, 1) as usize;
-        return made;
-    }
-    case
-}
 
-fn new_sample(case: Case, book: &mut [u8]) -> Case {
-    put_header(book, 3, 2, 1);
-    put_masks(book, 3, 3);
-    put_row(book, 3, 0, 0, 2, 1, 65535);
-    let mut made = case;
-    made.slots = 3;
-    made.length = 32;
-    made
-}
-
-fn new_book(line: &[u8], at: usize, case: Case, book: &mut [u8]) -> Case {
-    let n = short(argument(line, at, 1));
-    let r = short(argument(line, at, 3));
-    put_header(book, n, byte(argument(line, at, 2)), r);
-    put_masks(book, n, argument(line, at, 4));
-    let mut made = case;
-    made.slots = n;
-    made.length = 12 + 4 * n as usize + 8 * r as usize;
-    made
-}
-
-fn new_row(line: &[u8], at: usize, case: Case, book: &mut [u8]) -> Case {
-    let i = short(argument(line, at, 1));
-    let v = byte(argument(line, at, 2));
-    let end = argument(line, at, 3);
-    let lower = argument(line, at, 4);
-    let upper = argument(line, at, 5);
-    put_row(book, case.slots, i, v, end, lower, upper);
-    case
-}
-
-fn new_bytes(line: &[u8], at: usize, case: Case, book: &mut [u8]) -> Case {
-    let width = argument(line, at, 1);
-    let i = argument(line, at, 2);
-    let x = argument(line, at, 3);
-    if width == 1 {
-        put(book, i as usize, byte(x));
-        return case;
+    // The bytes of the call list that are lent; None where it has fewer.
+    pub fn calls(&self) -> Option<&[u8]>
+        ensures { MatchOption result (length self.now.calls < self.now.listed) (λ lent. lent.now ≡ take self.now.listed self.now.calls) }
+    {
+        self.calls.get(..self.listed)
     }
-    if width == 2 {
-        put16(book, i, x);
-        return case;
-    }
-    put32(book, i, x);
-    case
-}
 
-// Carries out the word at at, if it makes the call list.
-fn build_calls(line: &[u8], at: usize, case: Case, calls: &mut [u8]) -> Case {
-    let mut made = case;
-    if is_word(line, at, b'c', b'l') {
-        let v = byte(argument(line, at, 2));
-        return new_calls(
-            case,
-            calls,
-            1,
-            byte(argument(line, at, 1)),
-            v,
-            argument(line, at, 3),
-        );
+    // Carries out a word.
+    fn apply(&mut self, make: Make, step: Step<'_>) {
+        match make {
+            Make::Sample => self.sample(),
+            Make::Book => self.new_book(step),
+            Make::Row => self.row(step),
+            Make::Grid => self.grid(short(step.number(1))),
+            Make::Put => self.put(step),
+            Make::Lend => self.length = step.number(1) as usize,
+            Make::Call => self.call(step),
+            Make::Repeat => self.repeat(step),
+            Make::Trim => self.listed = step.number(1) as usize,
+        }
     }
-    if is_word(line, at, b'r', b'p') {
-        let c = short(argument(line, at, 1));
-        return new_calls(case, calls, c, byte(argument(line, at, 2)), 0, 0);
-    }
-    if is_word(line, at, b't', b'i') {
-        made.listed = argument(line, at, 1) as usize;
-    }
-    made
-}
 
-// c calls at the list's end.
-fn new_calls(case: Case, calls: &mut [u8], c: u16, kind: u8, v: u8, slot: u32) -> Case {
-    let mut made = case;
-    for i in 0..c {
-        let at = made.listed % 65536;
-        put_call(calls, (at / 4) as u16, kind, v, slot);
-        made.listed = at + 4;
+    fn sample(&mut self) {
+        let row = Row {
+            value: 0,
+            end: 2,
+            lower: 1,
+            upper: 65535,
+        };
+        put_header(&mut self.book, 3, 2, 1);
+        put_masks(&mut self.book, 3, 3);
+        put_row(&mut self.book, 3, 0, row);
+        self.slots = 3;
+        self.length = 32;
     }
-    made
-}
 
-// The lowest 8 bits.
-fn byte(x: u32) -> u8 {
-    (x % 256) as u8
-}
+    fn new_book(&mut self, step: Step<'_>) {
+        let n = short(step.number(1));
+        let r = short(step.number(3));
+        put_header(&mut self.book, n, byte(step.number(2)), r);
+        put_masks(&mut self.book, n, step.number(4));
+        self.slots = n;
+        self.length = HEADER + 4 * usize::from(n) + 8 * usize::from(r);
+    }
 
-// The lowest 16 bits.
-fn short(x: u32) -> u16 {
-    (x % 65536) as u16
+    fn row(&mut self, step: Step<'_>) {
+        let row = Row {
+            value: byte(step.number(2)),
+            end: short(step.number(3)),
+            lower: short(step.number(4)),
+            upper: short(step.number(5)),
+        };
+        put_row(&mut self.book, self.slots, short(step.number(1)), row);
+    }
+
+    fn grid(&mut self, r: u16) {
+        for i in 0..r {
+            let j = i / TYPES + 1;
+            let row = Row {
+                value: (i % TYPES) as u8,
+                end: 8 * j,
+                lower: 0,
+                upper: j,
+            };
+            put_row(&mut self.book, SLOTS, i, row);
+        }
+    }
+
+    fn put(&mut self, step: Step<'_>) {
+        let at = step.number(2) as usize;
+        let bytes = step.number(3).to_le_bytes();
+        match step.number(1) {
+            1 => put(&mut self.book, at, &bytes[..1]),
+            2 => put(&mut self.book, at, &bytes[..2]),
+            _ => put(&mut self.book, at, &bytes),
+        }
+    }
+
+    fn call(&mut self, step: Step<'_>) {
+        self.push(Call {
+            kind: byte(step.number(1)),
+            value: byte(step.number(2)),
+            slot: short(step.number(3)),
+        });
+    }
+
+    fn repeat(&mut self, step: Step<'_>) {
+        let call = Call {
+            kind: byte(step.number(2)),
+            value: 0,
+            slot: 0,
+        };
+        for _ in 0..short(step.number(1)) {
+            self.push(call);
+        }
+    }
+
+    // A call at the list's end, or at the last multiple of 4 before it.
+    fn push(&mut self, call: Call) {
+        let end = self.listed % 65536;
+        put(&mut self.calls, end / 4 * 4, &call.to_bytes());
+        self.listed = end + 4;
+    }
 }

@@ -1,15 +1,39 @@
-// An entry's outputs before it runs: every element is 9999, which no bound, mask or word of the cases is.
+// An entry's outputs. Before an entry runs every element is `UNWRITTEN`, which no bound, mask or word of the cases is: a mark and no Option, since the
+// entries write plain numbers.
 
-// Makes every element 9999.
-pub fn clear16(a: &mut [u16]) {
-    for i in 0..a.len() {
-        a[i] = 9999;
-    }
+ghost use Rattle.std.specs.Prelude.{◌≡◌, replicate};
+
+// What a bound is that was not written, and what a word or a mask is.
+pub const UNWRITTEN: u16 = 9999;
+
+pub const UNWRITTEN_WORD: u32 = UNWRITTEN as u32;
+
+// The room for each output: one more element than any entry writes, and for the words one call more.
+const BOUNDS: usize = 32 * 257 + 1;
+
+const WORDS: usize = 2 * 4097;
+
+const MASKS: usize = 257;
+
+#[derive(Drop)]
+pub struct Outputs {
+    pub lowers: [u16; BOUNDS],
+    pub uppers: [u16; BOUNDS],
+    pub words: [u32; WORDS],
+    pub masks: [u32; MASKS],
 }
 
-// Makes every element 9999.
-pub fn clear(a: &mut [u32]) {
-    for i in 0..a.len() {
-        a[i] = 9999;
+impl Outputs {
+    // Outputs of which nothing was written.
+    pub fn unwritten() -> Outputs
+        ensures bounds { (result.lowers ≡ replicate 8225 9999) × (result.uppers ≡ replicate 8225 9999) }
+        ensures others { (result.words ≡ replicate 8194 9999) × (result.masks ≡ replicate 257 9999) }
+    {
+        Outputs {
+            lowers: [UNWRITTEN; BOUNDS],
+            uppers: [UNWRITTEN; BOUNDS],
+            words: [UNWRITTEN_WORD; WORDS],
+            masks: [UNWRITTEN_WORD; MASKS],
+        }
     }
 }

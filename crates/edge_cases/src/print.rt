@@ -5,203 +5,95 @@
 //   kept                                  how many lowers, uppers, words and masks were not written
 //   equal x                               how many masks are x
 //   tally x                               how many words are x
-use crate::scan::{argument, following, is_word, word_end};
-use std::io;
+use crate::outputs::{Outputs, UNWRITTEN, UNWRITTEN_WORD};
+use crate::scan::{Show, Step};
 use std::io::Write;
+use std::{fmt, io};
 
-// Carries out the word at at, if it is one of the first four.
-pub fn show_elements(
+impl Outputs {
+    // Carries out a word.
+    pub fn show(&self, out: &mut impl Write, show: Show, step: Step<'_>) -> io::Result<()> {
+        step.show(out)?;
+        match show {
+            Show::Lowers => show_elements(out, &self.lowers, step),
+            Show::Uppers => show_elements(out, &self.uppers, step),
+            Show::Masks => show_elements(out, &self.masks, step),
+            Show::Words => show_calls(out, &self.words, step),
+            Show::Totals => {
+                show_number(out, sum(&self.lowers))?;
+                show_number(out, sum(&self.uppers))
+            }
+            Show::Kept => self.show_kept(out),
+            Show::Equal => show_number(out, count(&self.masks, step.number(1))),
+            Show::Tally => show_number(out, count(&self.words, step.number(1))),
+        }
+    }
+
+    fn show_kept(&self, out: &mut impl Write) -> io::Result<()> {
+        show_number(out, count(&self.lowers, UNWRITTEN_WORD))?;
+        show_number(out, count(&self.uppers, UNWRITTEN_WORD))?;
+        show_number(out, count(&self.words, UNWRITTEN_WORD))?;
+        show_number(out, count(&self.masks, UNWRITTEN_WORD))
+    }
+}
+
+// Elements i to j - 1, for the step's numbers i and j: by their numbers, since those past the array's end are printed too, as 0.
+fn show_elements<T: Copy + Into<u32>>(
     out: &mut impl Write,
-    line: &[u8],
-    at: usize,
-    lowers: &[u16],
-    uppers: &[u16],
-    words: &[u32],
-    masks: &[u32],
+    a: &[T],
+    step: Step<'_>,
 ) -> io::Result<()> {
-    let i = argument(line, at, 1);
-    let j = argument(line, at, 2);
-    if is_word(line, at, b'l', b'w') {
-        show_word(out, line, at)?;
-        show_table(out, lowers, i, j)?;
-    }
-    if is_word(line, at, b'u', b'p') {
-        show_word(out, line, at)?;
-        show_table(out, uppers, i, j)?;
-    }
-    if is_word(line, at, b'm', b's') {
-        show_word(out, line, at)?;
-        show_masks(out, masks, i, j)?;
-    }
-    if is_word(line, at, b'w', b'r') {
-        show_word(out, line, at)?;
-        show_calls(out, words, i, j)?;
+    for i in step.number(1)..step.number(2) {
+        show_number(out, element(a, i as usize))?;
     }
     Ok(())
 }
 
-// Carries out the word at at, if it is one of the last four.
-pub fn show_counts(
-    out: &mut impl Write,
-    line: &[u8],
-    at: usize,
-    lowers: &[u16],
-    uppers: &[u16],
-    words: &[u32],
-    masks: &[u32],
-) -> io::Result<()> {
-    if is_word(line, at, b't', b't') {
-        show_word(out, line, at)?;
-        show(out, sum(lowers))?;
-        show(out, sum(uppers))?;
-    }
-    if is_word(line, at, b'k', b'p') {
-        show_word(out, line, at)?;
-        show_kept(out, lowers, uppers, words, masks)?;
-    }
-    if is_word(line, at, b'e', b'u') {
-        show_word(out, line, at)?;
-        show(out, count(masks, argument(line, at, 1)))?;
-    }
-    if is_word(line, at, b't', b'l') {
-        show_word(out, line, at)?;
-        show(out, count(words, argument(line, at, 1)))?;
+// The words of calls i to j - 1, for the step's numbers i and j.
+fn show_calls(out: &mut impl Write, words: &[u32], step: Step<'_>) -> io::Result<()> {
+    for i in step.number(1)..step.number(2) {
+        match words.get(2 * i as usize..) {
+            Some([first, second, ..]) => write!(out, " ({} {})", Shown(*first), Shown(*second))?,
+            _ => out.write_all(b" (0)")?,
+        }
     }
     Ok(())
 }
 
-// How many lowers, uppers, words and masks were not written.
-fn show_kept(
-    out: &mut impl Write,
-    lowers: &[u16],
-    uppers: &[u16],
-    words: &[u32],
-    masks: &[u32],
-) -> io::Result<()> {
-    show(out, count_unwritten(lowers))?;
-    show(out, count_unwritten(uppers))?;
-    show(out, count(words, 9999))?;
-    show(out, count(masks, 9999))
+// A space and a number.
+pub fn show_number(out: &mut impl Write, x: u32) -> io::Result<()> {
+    write!(out, " {}", Shown(x))
 }
 
-// The line up to its colon, with it.
-pub fn show_name(out: &mut impl Write, line: &[u8], colon: usize) -> io::Result<()> {
-    if colon < line.len() {
-        out.write_all(&line[..colon + 1])?;
+// A number as it is printed, - for what was not written.
+#[derive(Clone, Copy)]
+struct Shown(u32);
+
+impl fmt::Display for Shown {
+    fn fmt<W: fmt::Write>(&self, f: &mut fmt::Formatter<W>) -> fmt::Result {
+        let x = self.0;
+        if x == UNWRITTEN_WORD {
+            f.write_str("-")
+        } else {
+            write!(f, "{x}")
+        }
     }
-    Ok(())
-}
-
-// A space and the word at at.
-pub fn show_word(out: &mut impl Write, line: &[u8], at: usize) -> io::Result<()> {
-    out.write_all(b" ")?;
-    let end = word_end(line, at);
-    if line.len() < end || end < at {
-        return Ok(());
-    }
-    out.write_all(&line[at..end])
-}
-
-// A space and a number, or - for what was not written.
-pub fn show(out: &mut impl Write, x: u32) -> io::Result<()> {
-    out.write_all(b" ")?;
-    show_bare(out, x)
-}
-
-fn show_bare(out: &mut impl Write, x: u32) -> io::Result<()> {
-    if x == 9999 {
-        return out.write_all(b"-");
-    }
-    write!(out, "{x}")
-}
-
-pub fn end_line(out: &mut impl Write) -> io::Result<()> {
-    out.write_all(b"\n")
-}
-
-fn show_table(out: &mut impl Write, a: &[u16], from: u32, to: u32) -> io::Result<()> {
-    for i in from..to {
-        show(out, bound(a, i as usize))?;
-    }
-    Ok(())
-}
-
-fn show_masks(out: &mut impl Write, a: &[u32], from: u32, to: u32) -> io::Result<()> {
-    for i in from..to {
-        show(out, word(a, i as usize))?;
-    }
-    Ok(())
-}
-
-fn show_calls(out: &mut impl Write, words: &[u32], from: u32, to: u32) -> io::Result<()> {
-    for i in from..to {
-        show_call(out, words, 2 * i as usize)?;
-    }
-    Ok(())
-}
-
-// The words at i and after it.
-fn show_call(out: &mut impl Write, words: &[u32], i: usize) -> io::Result<()> {
-    out.write_all(b" (")?;
-    show_bare(out, word(words, i))?;
-    if i < words.len() {
-        show(out, word(words, i + 1))?;
-    }
-    out.write_all(b")")
 }
 
 // Element i, or 0 where there is none.
-fn word(a: &[u32], i: usize) -> u32 {
-    if i < a.len() {
-        return a[i];
-    }
-    0
+fn element<T: Copy + Into<u32>>(a: &[T], i: usize) -> u32 {
+    a.get(i).copied().map_or(0, |x| x.into())
 }
 
-// Element i, or 0 where there is none.
-fn bound(a: &[u16], i: usize) -> u32 {
-    if i < a.len() {
-        return wide(a[i]);
-    }
-    0
-}
-
-// How many elements were not written.
-fn count_unwritten(a: &[u16]) -> u32 {
-    let mut number = 0;
-    for i in 0..a.len() {
-        if a[i] != 9999 {
-            continue;
-        }
-        number = following(number);
-    }
-    number
-}
-
-// How many elements are x.
-fn count(a: &[u32], x: u32) -> u32 {
-    let mut number = 0;
-    for i in 0..a.len() {
-        if a[i] != x {
-            continue;
-        }
-        number = following(number);
-    }
-    number
+// How many elements are x; as many as fit in 32 bits.
+fn count<T: Copy + Into<u32>>(a: &[T], x: u32) -> u32 {
+    let equal = a.iter().copied().filter(|y| (*y).into() == x).count();
+    u32::try_from(equal).unwrap_or(u32::MAX)
 }
 
 // The sum of the elements that were written; it fits.
 fn sum(a: &[u16]) -> u32 {
-    let mut total = 0;
-    for i in 0..a.len() {
-        if a[i] == 9999 {
-            continue;
-        }
-        total = std::num::wrapping_add_u32(total, wide(a[i]));
-    }
-    total
-}
-
-fn wide(x: u16) -> u32 {
-    x as u32
+    a.iter()
+        .filter(|x| **x != UNWRITTEN)
+        .fold(0u32, |total, x| total.wrapping_add(u32::from(*x)))
 }

@@ -1,118 +1,169 @@
-// A line's words and the numbers after each. A word is told by its first and third letter, which differ for any two words here.
+// A line of the cases: its name, and its steps, each a word with numbers after it. A word is told by its first and third letter, which differ for any
+// two words here.
+ghost use Rattle.std.specs.Prelude.{◌≡◌, ◌++◌, ◌≤◌, length, IfSome};
+ghost use Rattle.std.specs.Iterator.{at_most};
 
-// Whether a line begins at at.
-pub fn begins_line(text: &[u8], at: usize) -> bool {
-    if at == 0 {
-        return true;
-    }
-    if text.len() < at {
-        return false;
-    }
-    text[at - 1] == b'\n'
+use std::io;
+use std::io::Write;
+
+// What a step's word says.
+#[derive(Clone, Copy)]
+pub enum Command {
+    Make(Make),
+    Run(Entry),
+    Show(Show),
 }
 
-// The line of text from at, without its line feed.
-pub fn line_at(text: &[u8], at: usize) -> &[u8] {
-    let end = line_end(text, at);
-    if text.len() < end || end < at {
-        return &text[..0];
-    }
-    &text[at..end]
+// The words that make the book and the call list of a line: cases.rt.
+#[derive(Clone, Copy)]
+pub enum Make {
+    Sample,
+    Book,
+    Row,
+    Grid,
+    Put,
+    Lend,
+    Call,
+    Repeat,
+    Trim,
 }
 
-// Where the line of text from at ends: at its line feed, or where the text ends.
-fn line_end(text: &[u8], at: usize) -> usize {
-    for i in at..text.len() {
-        if text[i] == b'\n' {
-            return i;
+// The words that run an entry, or all: `edges`.
+#[derive(Clone, Copy)]
+pub enum Entry {
+    Check,
+    Close,
+    Settle,
+    Session,
+    Numbers,
+}
+
+// The words that print what an entry wrote: print.rt.
+#[derive(Clone, Copy)]
+pub enum Show {
+    Lowers,
+    Uppers,
+    Masks,
+    Words,
+    Totals,
+    Kept,
+    Equal,
+    Tally,
+}
+
+// The two parts of a line.
+#[derive(Clone, Copy)]
+pub struct Line<'a> {
+    // up to the first colon, with it
+    pub name: &'a [u8],
+    // what comes after it
+    rest: &'a [u8],
+}
+
+impl<'a> Line<'a> {
+    // None where the text has no name: no colon, or a # before the first.
+    pub fn parse(text: &'a [u8]) -> Option<Line<'a>>
+        ensures { IfSome result (λ line. line.name.now ++ line.rest.now ≡ text.now) }
+    {
+        let end = text.iter().position(|x| *x == b':' || *x == b'#')?;
+        let (name, rest) = text.split_at(end + 1);
+        if name.ends_with(b":") {
+            Some(Line { name, rest })
+        } else {
+            None
         }
     }
-    text.len()
+
+    // The line's steps, first to last.
+    pub fn steps(self) -> Steps<'a>
+        ensures { result.rest.now ≡ self.entry.rest.now }
+    {
+        Steps { rest: self.rest }
+    }
 }
 
-// Where the name of a line ends; the line's length where it has none.
-pub fn colon_at(line: &[u8]) -> usize {
-    for i in 0..line.len() {
-        if line[i] == b'#' {
-            return line.len();
-        }
-        if line[i] == b':' {
-            return i;
-        }
-    }
-    line.len()
+// The steps that are left of a line: each begins at a letter after a space.
+#[derive(Clone, Copy)]
+pub struct Steps<'a> {
+    rest: &'a [u8],
 }
 
-// Whether a word begins at at: a letter after a space.
-pub fn begins_word(line: &[u8], at: usize) -> bool {
-    if at == 0 {
-        return false;
+impl<'a> Iterator for Steps<'a> {
+    type Item = Step<'a>;
+
+    ghost remaining = { λ s. at_most (length s.rest.now) };
+
+    fn next(&mut self) -> Option<Step<'a>> {
+        let space = self
+            .rest
+            .windows(2)
+            .position(|pair| pair[0] == b' ' && pair[1].is_ascii_lowercase())?;
+        self.rest = &self.rest[space + 1..];
+        Some(Step { text: self.rest })
     }
-    if line.len() <= at {
-        return false;
-    }
-    if line[at - 1] != b' ' {
-        return false;
-    }
-    is_letter(line[at])
 }
 
-// The end of the word at at.
-pub fn word_end(line: &[u8], at: usize) -> usize {
-    for i in at..line.len() {
-        if is_letter(line[i]) {
-            continue;
-        }
-        return i;
-    }
-    line.len()
+// A word and what follows it in its line.
+#[derive(Clone, Copy)]
+pub struct Step<'a> {
+    text: &'a [u8],
 }
 
-// Whether the word at at has this first and this third letter.
-pub fn is_word(line: &[u8], at: usize, first: u8, third: u8) -> bool {
-    if line.len() < 3 {
-        return false;
+impl<'a> Step<'a> {
+    // None where its letters are those of no word.
+    pub fn command(self) -> Option<Command>
+        ensures { IfSome result (λ _. 3 ≤ length self.entry.text.now) }
+    {
+        let [first, _, third, ..] = self.text else {
+            return None;
+        };
+        let command = match (*first, *third) {
+            (b's', b'm') => Command::Make(Make::Sample),
+            (b'b', b'o') => Command::Make(Make::Book),
+            (b'r', b'w') => Command::Make(Make::Row),
+            (b'g', b'i') => Command::Make(Make::Grid),
+            (b'p', b't') => Command::Make(Make::Put),
+            (b'l', b'n') => Command::Make(Make::Lend),
+            (b'c', b'l') => Command::Make(Make::Call),
+            (b'r', b'p') => Command::Make(Make::Repeat),
+            (b't', b'i') => Command::Make(Make::Trim),
+            (b'c', b'e') => Command::Run(Entry::Check),
+            (b'c', b'o') => Command::Run(Entry::Close),
+            (b's', b't') => Command::Run(Entry::Settle),
+            (b's', b's') => Command::Run(Entry::Session),
+            (b'n', b'm') => Command::Run(Entry::Numbers),
+            (b'l', b'w') => Command::Show(Show::Lowers),
+            (b'u', b'p') => Command::Show(Show::Uppers),
+            (b'm', b's') => Command::Show(Show::Masks),
+            (b'w', b'r') => Command::Show(Show::Words),
+            (b't', b't') => Command::Show(Show::Totals),
+            (b'k', b'p') => Command::Show(Show::Kept),
+            (b'e', b'u') => Command::Show(Show::Equal),
+            (b't', b'l') => Command::Show(Show::Tally),
+            _ => return None,
+        };
+        Some(command)
     }
-    if line.len() - 3 < at {
-        return false;
-    }
-    if line[at] != first {
-        return false;
-    }
-    line[at + 2] == third
-}
 
-// Number i of those after the word at at, counted from 1; 0 where the line has no more.
-pub fn argument(line: &[u8], at: usize, i: u32) -> u32 {
-    let mut value = 0;
-    let mut seen = 0;
-    for j in word_end(line, at)..line.len() {
-        if line[j] == b' ' {
-            seen = following(seen);
-            continue;
-        }
-        if seen != i {
-            continue;
-        }
-        value = with_digit(value, line[j]);
+    // Number i of those after the word, counted from 1; 0 where the line has no more. Nothing here has more than 32 bits.
+    pub fn number(self, i: usize) -> u32 {
+        let digits = self.text.split(|x| *x == b' ').nth(i).unwrap_or(&[]);
+        digits.iter().fold(0u32, |value, digit| {
+            value
+                .wrapping_mul(10)
+                .wrapping_add(u32::from(digit.wrapping_sub(b'0')))
+        })
     }
-    value
-}
 
-// A count and 1; no line has more than fits.
-pub fn following(x: u32) -> u32 {
-    std::num::wrapping_add_u32(x, 1)
-}
-
-// 10 times value and the digit; nothing here has more than 32 bits.
-fn with_digit(value: u32, digit: u8) -> u32 {
-    let sum = 10 * (value as u64) + (digit as u64 + 208) % 256;
-    (sum % 4294967296) as u32
-}
-
-fn is_letter(x: u8) -> bool {
-    if x < b'a' {
-        return false;
+    // Its letters.
+    fn word(self) -> &'a [u8] {
+        let end = self.text.iter().position(|x| !x.is_ascii_lowercase());
+        &self.text[..end.unwrap_or(self.text.len())]
     }
-    x <= b'z'
+
+    // Prints a space and the word.
+    pub fn show(self, out: &mut impl Write) -> io::Result<()> {
+        out.write_all(b" ")?;
+        out.write_all(self.word())
+    }
 }

@@ -4,14 +4,13 @@
 // A line is a name and a colon, which are printed, and then words with numbers after them, parted by single spaces. A line that begins with # is none.
 #![tactic(auto)]
 
-ghost use Rattle.std.specs.Prelude.{◌≤◌, length};
-
 mod answers; // answers.rt: words that run an entry and print its answer
 
-use answers::run_answers;
-use edge_cases::{begins_line, build, colon_at, line_at, show_name};
+use answers::Inputs;
+use edge_cases::{Case, Line};
+use full_reads::read_full;
 use std::io;
-use std::io::{Read, Write};
+use std::io::Write;
 
 // The most bytes of the cases that are read.
 const TEXT_BYTES: usize = 32_768;
@@ -22,55 +21,22 @@ fn main(rt: HostRuntime) -> io::Result<()> {
     run_lines(&mut io::writer(&rt), &text[..end])
 }
 
-// Reads until buf is full, the input ends or a read fails: each turn but the last reads a byte at least. How many bytes were read.
-fn read_full(input: &mut impl Read, buf: &mut [u8]) -> usize
-    ensures { result ≤ length buf.new }
-{
-    let mut filled = 0;
-    for _ in 0..buf.len() {
-        match input.read(&mut buf[filled..]) {
-            Ok(0) | Err(_) => break,
-            Ok(count) => filled += count,
-        }
-    }
-    filled
-}
-
-// Runs each line.
+// Runs each line that has a name.
 fn run_lines(out: &mut impl Write, text: &[u8]) -> io::Result<()> {
-    for at in 0..text.len() {
-        if begins_line(text, at) {
-            run_case(out, line_at(text, at))?;
+    for text in text.split(|x| *x == b'\n') {
+        if let Some(line) = Line::parse(text) {
+            run_line(out, line)?;
         }
     }
     Ok(())
 }
 
-// Prints the name, makes book and calls, runs the entries.
-fn run_case(out: &mut impl Write, line: &[u8]) -> io::Result<()> {
-    let mut book = [0u8; 9236];
-    let mut calls = [0u8; 16388];
-    let colon = colon_at(line);
-    if line.len() <= colon {
-        return Ok(());
+// Prints the name, makes book and calls, runs the entries on what is lent of them.
+fn run_line(out: &mut impl Write, line: Line<'_>) -> io::Result<()> {
+    out.write_all(line.name)?;
+    let case = Case::build(line);
+    match (case.book(), case.calls()) {
+        (Some(book), Some(calls)) => Inputs { book, calls }.run_line(out, line),
+        _ => Ok(()),
     }
-    show_name(out, line, colon)?;
-    let case = build(line, colon, &mut book, &mut calls);
-    run_lent(out, line, colon, &book, &calls, case.length, case.listed)
-}
-
-// Runs the entries, lent so many bytes of the book and of the calls.
-fn run_lent(
-    out: &mut impl Write,
-    line: &[u8],
-    colon: usize,
-    book: &[u8],
-    calls: &[u8],
-    length: usize,
-    listed: usize,
-) -> io::Result<()> {
-    if book.len() < length || calls.len() < listed {
-        return Ok(());
-    }
-    run_answers(out, line, colon, &book[..length], &calls[..listed])
 }

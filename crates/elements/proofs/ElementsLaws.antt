@@ -4,12 +4,12 @@
 -- Assumes nothing.
 use mathlib.Core.Path.{◌≡◌, refl, sym, ap, ◌∙◌}
 use mathlib.Core.List.{List, [], ◌∷◌, ◌++◌, append_assoc, append-nil}
-use Prim.Native.Nat.{ℕ, zero, suc, ◌+◌, ◌*◌, ◌/◌, ◌%◌, ◌≤◌, ◌<◌}
-use native.Mathlib.Nat.{add-zero, add-mul-mod_self_right, div-div-eq-div-mul, mul-suc, mul-zero, mul-le-mul_left, le_trans}
+use Prim.Native.Nat.{ℕ, zero, suc, ◌+◌, ◌*◌, ◌≤◌, ◌<◌}
+use native.Mathlib.Nat.{add-zero, mul-suc, mul-zero, mul-le-mul_left, le_trans}
 use native.Mathlib.Numerals.{add-one}
 use native.Mathlib.Omega.{arith}
 use lib.ListN.{length, get_or, set, take, drop, length-append, length-set, length-drop, get_or-append}
-use lib.Seq.{get_or-append-add, sets, sets-eq, length-sets, take-suc, take_at, take-length, drop-append-add, drop-drop, length-take-le}
+use lib.Seq.{get_or-append-add, sets, sets-eq, length-sets, take-suc, take_at, drop-append-add, drop-drop, length-take-le}
 use Rattle.elements.specs.Elements.{digits, bytes_of}
 
 -- ---- sets
@@ -26,21 +26,6 @@ length_two out i j x y = length-set (set out i x) j y ∙ length-set out i x
 pub length_digits : (w x : ℕ) → length (digits w x) ≡ w
 length_digits zero x = refl
 length_digits (suc w) x = ap suc (length_digits w _)
-
--- 4 bytes are those of the lower half, then those of the upper
-digits_halves : (x : ℕ) → digits 4 x ≡ digits 2 (x % 65536) ++ digits 2 (x / 65536)
-digits_halves x =
-    let first : x % 256 ≡ x % 65536 % 256 = omega arith in
-    let above : x / 256 ≡ x % 65536 / 256 + x / 65536 * 256 = omega arith in
-    let second : x / 256 % 256 ≡ x % 65536 / 256 % 256 = ap (λ (y : ℕ). y % 256) above ∙ add-mul-mod_self_right (x % 65536 / 256) (x / 65536) 256 in
-    let upper : x / 256 / 256 ≡ x / 65536 = div-div-eq-div-mul x 256 256 in
-    rw (upper, second, first)
-
--- so two stores of two bytes are one of four
-pub sets_halves : (out : List ℕ) (at x : ℕ) → sets (sets out at (digits 2 (x % 65536))) (at + 2) (digits 2 (x / 65536)) ≡ sets out at (digits 4 x)
-sets_halves out at x =
-    let behind : at + 2 ≡ suc (suc at) = omega arith in
-    ap (λ (j : ℕ). sets (sets out at (digits 2 (x % 65536))) j (digits 2 (x / 65536))) behind ∙ ap (sets out at) (sym (digits_halves x))
 
 -- ---- bytes_of
 
@@ -120,6 +105,3 @@ written_more w {xs} {out} i {s} {s'} i<m fits written stored =
           ∙ sets_behind w (w * i) (bytes_of w (take i xs)) (digits w (get_or xs i 0)) out long (length_digits w (get_or xs i 0)) (omega arith)
           ∙ rw (next, bytes_of_more w xs i i<m);
     }
-
-pub written_all : (w : ℕ) {xs out : List ℕ} {i : ℕ} {s : List ℕ} → i ≡ length xs → Written w xs out i s → s ≡ bytes_of w xs ++ drop (w * length xs) out
-written_all w {xs} {out} {i} {s} all written = written.front ∙ rw (all, take-length xs)

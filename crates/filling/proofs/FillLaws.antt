@@ -45,7 +45,8 @@ filled_more f {l} {p} {s} x x≡ p<m filled =
 
 pub filled_all : (f : ℕ → ℕ) {l : List ℕ} {p : ℕ} {s : List ℕ} → p ≡ length l → Filled f l p s → s ≡ list_of (length l) f
 filled_all f {l} {p} {s} all filled =
-    filled.front ∙ ap (λ (j : ℕ). list_of j f ++ drop j l) all ∙ ap (λ (r : List ℕ). list_of (length l) f ++ r) (drop-length l) ∙ append-nil (list_of (length l) f)
+    filled.front ∙ ap (λ (j : ℕ). list_of j f ++ drop j l) all
+    ∙ ap (λ (r : List ℕ). list_of (length l) f ++ r) (drop-length l) ∙ append-nil (list_of (length l) f)
 
 -- ---- the prefix lengths along a line that begins at base
 

@@ -1,6 +1,6 @@
 -- Filling a list line by line.
 --   prefixes n             the prefix length of each place
---   LineFilled n base ..   what `fill_line` does: in a list of which the places before base hold their prefix lengths, those up to r hold them
+--   LineFilled n base ..   what filling one line does: in a list of which the places before base hold their prefix lengths, those up to r hold them
 -- Assumes nothing.
 use Rattle.std.specs.Prelude.{◌≡◌, List, ◌++◌, ℕ, ◌+◌, ◌-◌, ◌%◌, min, length, drop}
 use Rattle.book.specs.Layout.{list_of}

@@ -31,6 +31,7 @@ pub fn fix(
 {
     let mut h = top;
     let mut rest = slots::other_values(masks, slot, v);
+    // a `while`: `rest` is read anew after each call that may have changed the slot
     while 1 < domains::count(rest) {
         let w = domains::lowest(rest);
         rest = domains::less(rest, w);
@@ -79,13 +80,28 @@ pub fn strike(
         return live_at(top);
     }
     let o = strikes::strike_one(masks, cells, trail, n, k, top, slot, v);
-    let strikes::Removal::Made(x, a, y, b, w) = o else {
+    let Some(made) = o else {
         return dead_at(top);
     };
+    let a = made.low_reach;
+    let b = made.high_reach;
     if a == 0 && b == 0 {
         return live_at(top + 1);
     }
-    follow(masks, cells, trail, n, k, top + 1, v, x, a, w, y, b)
+    follow(
+        masks,
+        cells,
+        trail,
+        n,
+        k,
+        top + 1,
+        v,
+        made.low_note,
+        a,
+        made.only,
+        made.high_note,
+        b,
+    )
 }
 
 // What follows a strike: settles the slots from x on before the end a, where the lower bound of v is met, then those from y on before the end b,
@@ -146,6 +162,7 @@ pub fn fix_free(
     let mut h = top;
     let mut b = start / 32;
     let mut word = slots::open_block(cells, n, k, b, start, end);
+    // a `while`: one loop over blocks and their slots, since an inner loop would add to the frame of each call of the cycle
     while b < (end + 31) / 32 {
         if word == 0 {
             b += 1;
@@ -196,6 +213,7 @@ pub fn strike_free(
     let mut h = top;
     let mut b = start / 32;
     let mut word = slots::open_block(cells, n, k, b, start, end);
+    // a `while`: one loop over blocks and their slots, since an inner loop would add to the frame of each call of the cycle
     while b < (end + 31) / 32 {
         if word == 0 {
             b += 1;

@@ -8,27 +8,18 @@ ghost use Rattle.segments_model.specs.Build.{Inserted, Pointed};
 ghost use Rattle.segments_model.specs.Links.{Fresh};
 ghost use Rattle.inserting.specs.Visit.{Visit};
 
-// How the building goes on after a prefix: its corner lacks slack, or the first right end is at a place.
-#[derive(Clone, Copy)]
-pub enum Visited {
-    Lacking,
-    Onward(usize),
-}
-
 // Empties the cells up to n: no spent corner, and links to the next place.
 pub fn blank(cells: &mut [u16], n: usize)
     requires { n < length cells.old }
     ensures { (length cells.new ≡ length cells.old) × (get_or cells.new 0 0 ≡ 0) × Fresh n cells.new }
 {
     cells[0] = 0;
-    let mut t: usize = 1;
-    while t <= n {
+    for t in 1..n + 1 {
         cells[t] = 1024;
-        t += 1;
     }
 }
 
-// Takes the prefix t, where those after it are done and `next` is the first right end.
+// Takes the prefix t, where those after it are done and `next` is the first right end: the first right end then; or none, where the corner t lacks slack.
 pub fn visit(
     cells: &mut [u16],
     n: usize,
@@ -37,18 +28,18 @@ pub fn visit(
     gained: usize,
     lost: usize,
     next: usize,
-) -> Visited
+) -> Option<usize>
     requires { (0 < t) × (t ≤ n) × (n < length cells.old) × (n < 1024) × (gained < 1024) × (t < next) × (next ≤ n + 1) }
     ensures { Visit n t corner gained lost next cells.old cells.new result }
 {
     if !corner {
-        return Visited::Onward(next);
+        return Some(next);
     }
     if gained < lost {
-        return Visited::Lacking;
+        return None;
     }
     let first = insert(cells, n, t, gained - lost, next);
-    Visited::Onward(first)
+    Some(first)
 }
 
 // Adds the corner t with slack x before those that the cells hold, of which the first right end is at next. The first right end after it.
@@ -68,7 +59,7 @@ pub fn insert(cells: &mut [u16], n: usize, t: usize, x: usize, next: usize) -> u
         point(cells, t + 1, next);
         return t;
     }
-    let y = wide(cells[next]);
+    let y = cells[next] as usize;
     if y < x {
         return next;
     }
@@ -83,17 +74,7 @@ pub fn point(cells: &mut [u16], from: usize, next: usize)
     requires { (from ≤ next) × (next ≤ length cells.old) × (next ≤ 1024) }
     ensures { Pointed from next next cells.old cells.new }
 {
-    let mut c = (1023 + (next - from)) as u16;
-    let mut i = from;
-    while i < next {
-        cells[i] = c;
-        c -= 1;
-        i += 1;
+    for i in from..next {
+        cells[i] = (1023 + (next - i)) as u16;
     }
-}
-
-fn wide(x: u16) -> usize
-    ensures { (result ≡ x) × (result < 65536) }
-{
-    x as usize
 }

@@ -1,5 +1,4 @@
 // One call on a kept session, without lists. The contracts cite kept_model's `specs/Kept.antt` and `specs/Entries.antt`.
-ghost use Rattle.std.specs.Prelude.{◌≡◌, ℕ};
 ghost use Rattle.session_model.specs.Calls.{call_of};
 ghost use Rattle.kept_model.specs.Entries.{KeptCalls};
 ghost use Rattle.kept_model.specs.Kept.{Kept};
@@ -8,6 +7,7 @@ ghost use Rattle.kept_model.specs.Memory.{memory};
 use crate::Words;
 use crate::numbers::{MADE, SLOTS, TYPES, number_at, session_in, write_numbers};
 use crate::steps::MOST_CALLS;
+use answer::{Refusal, word};
 use calls::Call;
 use stepping::step_alone;
 
@@ -30,7 +30,7 @@ pub fn call(
     let made = number_at(numbers, MADE);
     if MOST_CALLS <= made {
         return Words {
-            first: 266,
+            first: word(Err(Refusal::CallList)),
             second: 0,
         };
     }
@@ -38,11 +38,7 @@ pub fn call(
     let types = number_at(numbers, TYPES);
     let k = types as u32;
     let session = session_in(numbers);
-    let call = Call {
-        kind: kind_byte(kind),
-        value,
-        slot: slot as usize,
-    };
+    let call = Call::new(kind, value, slot as usize);
     let stepped = step_alone(
         &mut masks[..n],
         cells,
@@ -60,14 +56,4 @@ pub fn call(
         first: stepped.first,
         second: stepped.second,
     }
-}
-
-// The kind as a byte: one above 7 is unknown, as 0 is.
-fn kind_byte(kind: u32) -> u8
-    ensures { (v s : ℕ) → call_of result v s ≡ call_of kind v s }
-{
-    if 255 < kind {
-        return 0;
-    }
-    kind as u8
 }

@@ -49,16 +49,15 @@ pub fn session_in(numbers: &[usize]) -> Session
 }
 
 // The standing of a number: 0 live, 1 dead since the call, else opened dead.
+#[tactic(auto, unfolding(kept_model::specs::Memory::standing_by_number))]
 fn standing_by_number(number: usize, call: usize) -> Standing
     ensures { result ≡ standing_by_number number call }
 {
-    if number == 0 {
-        return Standing::Live;
+    match number {
+        0 => Standing::Live,
+        1 => Standing::Dead(call),
+        _ => Standing::OpenedDead,
     }
-    if number == 1 {
-        return Standing::Dead(call);
-    }
-    Standing::OpenedDead
 }
 
 // Writes a session of so many slots and types after so many calls.

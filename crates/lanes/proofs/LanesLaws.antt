@@ -26,7 +26,18 @@ pub total_none : (e : Eight) → total e ≡ 0 → (i : ℕ) → i < 8 → lane 
 total_none e none = each (λ i. lane e i ≡ 0) (omega arith, omega arith, omega arith, omega arith, omega arith, omega arith, omega arith, omega arith)
 
 pub total_all : (e : Eight) → ((i : ℕ) → i < 8 → lane e i ≡ 0) → total e ≡ 0
-total_all e all = omega (arith, all 0 (omega arith), all 1 (omega arith), all 2 (omega arith), all 3 (omega arith), all 4 (omega arith), all 5 (omega arith), all 6 (omega arith), all 7 (omega arith))
+total_all e all =
+    omega (
+      arith,
+      all 0 (omega arith),
+      all 1 (omega arith),
+      all 2 (omega arith),
+      all 3 (omega arith),
+      all 4 (omega arith),
+      all 5 (omega arith),
+      all 6 (omega arith),
+      all 7 (omega arith),
+    )
 
 -- where two numbers come to 0, each is 0
 part_none : (x y z : ℕ) → z ≡ min 65535 (x + y) → z ≡ 0 → (x ≡ 0) × (y ≡ 0)

@@ -6,8 +6,7 @@ ghost use Rattle.std.specs.Prelude.{◌≡◌, ◌+◌, ◌-◌, ◌<◌, min, l
 ghost use Rattle.std.proofs.lemmas.List.Edits.{sets};
 ghost use Rattle.lanes.specs.Lanes.{lanes, lane, total, Eightfold};
 
-use stores::{either16, entry, less16};
-
+// Fields and not an array: LLVM takes the eight of them by one operation of 128 bits in each function below.
 #[derive(Clone, Copy)]
 pub struct Eight {
     pub e0: u16,
@@ -59,14 +58,14 @@ pub fn load(s: &[u16], p: usize) -> Eight
     ensures { Eightfold (λ i. lane result i ≡ get_or s.now (p + i) 0) }
 {
     Eight {
-        e0: entry(s, p + 0),
-        e1: entry(s, p + 1),
-        e2: entry(s, p + 2),
-        e3: entry(s, p + 3),
-        e4: entry(s, p + 4),
-        e5: entry(s, p + 5),
-        e6: entry(s, p + 6),
-        e7: entry(s, p + 7),
+        e0: s[p + 0],
+        e1: s[p + 1],
+        e2: s[p + 2],
+        e3: s[p + 3],
+        e4: s[p + 4],
+        e5: s[p + 5],
+        e6: s[p + 6],
+        e7: s[p + 7],
     }
 }
 
@@ -90,14 +89,14 @@ pub fn sum(a: Eight, b: Eight) -> Eight
     ensures { Eightfold (λ i. lane result i ≡ min 65535 (lane a i + lane b i)) }
 {
     Eight {
-        e0: sum16(a.e0, b.e0),
-        e1: sum16(a.e1, b.e1),
-        e2: sum16(a.e2, b.e2),
-        e3: sum16(a.e3, b.e3),
-        e4: sum16(a.e4, b.e4),
-        e5: sum16(a.e5, b.e5),
-        e6: sum16(a.e6, b.e6),
-        e7: sum16(a.e7, b.e7),
+        e0: a.e0.saturating_add(b.e0),
+        e1: a.e1.saturating_add(b.e1),
+        e2: a.e2.saturating_add(b.e2),
+        e3: a.e3.saturating_add(b.e3),
+        e4: a.e4.saturating_add(b.e4),
+        e5: a.e5.saturating_add(b.e5),
+        e6: a.e6.saturating_add(b.e6),
+        e7: a.e7.saturating_add(b.e7),
     }
 }
 
@@ -106,14 +105,14 @@ pub fn less(a: Eight, b: Eight) -> Eight
     ensures { Eightfold (λ i. lane result i ≡ lane a i - lane b i) }
 {
     Eight {
-        e0: less16(a.e0, b.e0),
-        e1: less16(a.e1, b.e1),
-        e2: less16(a.e2, b.e2),
-        e3: less16(a.e3, b.e3),
-        e4: less16(a.e4, b.e4),
-        e5: less16(a.e5, b.e5),
-        e6: less16(a.e6, b.e6),
-        e7: less16(a.e7, b.e7),
+        e0: a.e0.saturating_sub(b.e0),
+        e1: a.e1.saturating_sub(b.e1),
+        e2: a.e2.saturating_sub(b.e2),
+        e3: a.e3.saturating_sub(b.e3),
+        e4: a.e4.saturating_sub(b.e4),
+        e5: a.e5.saturating_sub(b.e5),
+        e6: a.e6.saturating_sub(b.e6),
+        e7: a.e7.saturating_sub(b.e7),
     }
 }
 
@@ -121,16 +120,7 @@ pub fn less(a: Eight, b: Eight) -> Eight
 pub fn any(e: Eight) -> bool
     ensures { result ≡ ltb 0 (total e) }
 {
-    let front = either16(either16(e.e0, e.e1), either16(e.e2, e.e3));
-    let back = either16(either16(e.e4, e.e5), either16(e.e6, e.e7));
-    0 < either16(front, back)
-}
-
-fn sum16(x: u16, y: u16) -> u16
-    ensures { result ≡ min 65535 (x + y) }
-{
-    if 65535 - y < x {
-        return 65535;
-    }
-    x + y
+    let front = (e.e0 | e.e1) | (e.e2 | e.e3);
+    let back = (e.e4 | e.e5) | (e.e6 | e.e7);
+    0 < front | back
 }

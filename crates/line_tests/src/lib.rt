@@ -7,8 +7,6 @@ ghost use Rattle.closing_model.specs.Table.{view};
 ghost use Rattle.closing_model.specs.Sweep.{Decides, Stairs, Line};
 ghost use Rattle.line_tests.specs.Cross.{CrossAnswer};
 
-use stores::{either16, entry, less16};
-
 // Whether each entry of a line is the one before or one more: by the bits of all rises and of all falls, without a branch in the loop.
 fn stairs(s: &[u16], base: usize, n: usize) -> bool
     requires { base + n < length s.now }
@@ -16,13 +14,11 @@ fn stairs(s: &[u16], base: usize, n: usize) -> bool
 {
     let mut rise = 0;
     let mut fall = 0;
-    let mut t = 0;
-    while t < n {
-        let a = entry(s, base + t);
-        let b = entry(s, base + t + 1);
-        rise = either16(rise, less16(b, a));
-        fall = either16(fall, less16(a, b));
-        t += 1;
+    for t in 0..n {
+        let a = s[base + t];
+        let b = s[base + t + 1];
+        rise |= b.saturating_sub(a);
+        fall |= a.saturating_sub(b);
     }
     if 1 < rise {
         return false;
@@ -50,12 +46,10 @@ pub fn crosses(lowers: &[u16], uppers: &[u16], p: usize, m: usize) -> bool
     ensures { CrossAnswer p m (view lowers.now uppers.now) result }
 {
     let mut gap = 0;
-    let mut t = 0;
-    while t < m {
-        let a = entry(lowers, p + t);
-        let b = entry(uppers, p + t);
-        gap = either16(gap, less16(a, b));
-        t += 1;
+    for t in 0..m {
+        let a = lowers[p + t];
+        let b = uppers[p + t];
+        gap |= a.saturating_sub(b);
     }
     0 < gap
 }

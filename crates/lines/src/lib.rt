@@ -6,7 +6,7 @@ ghost use Rattle.std.specs.Prelude.{◌≡◌, ◌+◌, ◌-◌, ◌<◌, length
 ghost use Rattle.closing_model.specs.Sweep.{raised, Did, Passed, Fwds, Bwds, Line};
 
 use line_tests::keeps;
-use stores::{at, greater, lower_to, raise};
+use stores::{at, lower_to, raise};
 
 // One value's line, from its start to its end, with the bounds at t in a and b.
 fn forward_pass(lowers: &mut [u16], uppers: &mut [u16], base: usize, n: usize)
@@ -15,11 +15,9 @@ fn forward_pass(lowers: &mut [u16], uppers: &mut [u16], base: usize, n: usize)
 {
     let mut a = at(lowers, base);
     let mut b = at(uppers, base);
-    let mut t = 0;
-    while t < n {
+    for t in 0..n {
         a = raise(lowers, base + t + 1, a);
         b = lower_to(uppers, base + t + 1, b + 1);
-        t += 1;
     }
 }
 
@@ -31,10 +29,8 @@ fn backward_pass(lowers: &mut [u16], uppers: &mut [u16], base: usize, n: usize)
     let last = base + n;
     let mut a = at(lowers, last);
     let mut b = at(uppers, last);
-    let mut t = n;
     let mut d = 0;
-    while 0 < t {
-        t -= 1;
+    for t in (0..n).rev() {
         d += 1;
         a = raise_less(lowers, base + t, a, d);
         b = lower_to(uppers, base + t, b);
@@ -47,7 +43,7 @@ fn raise_less(s: &mut [u16], p: usize, x: usize, d: usize) -> usize
     requires { (p < length s.old) × (d < length s.old) × (x < 65536 + d) }
     ensures { (s.new ≡ raised s.old p (x - d)) × (result ≡ get_or s.new p 0 + d) × (result < 65536 + d) }
 {
-    let y = greater(at(s, p) + d, x);
+    let y = (at(s, p) + d).max(x);
     s[p] = (y - d) as u16;
     y
 }

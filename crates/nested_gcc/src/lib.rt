@@ -13,7 +13,7 @@ ghost use Rattle.kept_model.specs.Kept.{Kept};
 ghost use Rattle.kept_model.specs.Memory.{memory};
 
 use answer::word;
-use book::Limits;
+use entries_model::FULL_LIMITS;
 use kept::Words;
 
 // The version of this part.
@@ -22,13 +22,6 @@ const MAJOR: u32 = 1;
 const MINOR: u32 = 6;
 
 const PATCH: u32 = 0;
-
-// Document 01's limits.
-const SLOTS: usize = 256;
-
-const TYPES: usize = 32;
-
-const ROWS: usize = 1024;
 
 // Whether book is a good book. Writes nothing, and never answers dead.
 #[unsafe(no_mangle)]
@@ -136,12 +129,7 @@ pub extern "C" fn nested_gcc_import_csv(text: &[u8], book: &mut [u8]) -> u32
 pub extern "C" fn nested_gcc_probe(book: &[u8], calls: &[u8], dead: &mut [u8]) -> u32
     ensures { ProbeEntry book.now calls.now dead.old result dead.new }
 {
-    let limits = Limits {
-        slots: SLOTS,
-        values: TYPES,
-        rows: ROWS,
-    };
-    word(probe::probe(book, limits, calls, dead))
+    word(probe::probe(book, FULL_LIMITS, calls, dead))
 }
 
 // Writes the canonical book of book, a row for each corner of its closed table, into the front of out. Live and dead are those of closing alone.

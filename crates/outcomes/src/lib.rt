@@ -6,7 +6,7 @@ ghost use Rattle.std.specs.Prelude.{◌≡◌, ◌+◌, ◌*◌, ◌<◌};
 ghost use Rattle.outcomes.specs.Codes.{height_of, is_dead, outcome_of};
 ghost use Rattle.outcomes.specs.declared.Outcome.TheVariants.{Live, Dead};
 
-// The trail's height after a call, and whether a stable list may be left.
+// The trail's height after a call, and whether a stable list may be left. No Result: both cases carry a height, and neither is an error.
 #[derive(Clone, Copy)]
 pub enum Outcome {
     Live(usize),

@@ -1,4 +1,4 @@
--- What each kind of call needs where no number refuses it (`decide_deciding` .. `walls_counting`), and the call that a kind byte stands for.
+-- What each kind of call needs where no number refuses it (`decide_deciding` .. `walls_counting`).
 -- No contract cites this file. Assumes nothing.
 use mathlib.Core.Path.{◌≡◌, refl, sym, ◌∙◌, subst}
 use mathlib.Core.Bool.{Bool, true, false, true≢false, ◌&&◌}
@@ -10,58 +10,17 @@ use borrow.Author.Tests.{leb-false, eqb-false}
 use lib.Dec.{leb}
 use lib.ListN.{length}
 use Rattle.session_model.specs.Calls as Calls
-use Rattle.session_model.specs.Calls.{Call, call_of}
+use Rattle.session_model.specs.Calls.{Call}
 use Rattle.session_model.specs.Refusal.{unknown_kind, slot_out, value_out, no_mark, while_dead, marks_full, refusal}
 use Rattle.session_model.proofs.OrderLaws.{none_applies_not}
 use Rattle.acts.specs.Given.{decision_of, is_dead}
 use Rattle.acts.specs.Represents.{Running}
-use Rattle.acts.specs.Answers.{Acts, Deciding, Marking, Backing, Counting}
+use Rattle.acts.specs.Answers.{Deciding, Marking, Backing, Counting}
 use Rattle.acts.specs.declared.Session.{Session}
 use Rattle.acts.specs.declared.Standing.{Standing}
 use Rattle.acts.specs.declared.Standing.TheVariants.{OpenedDead, Live, Dead}
-use Rattle.acts.specs.declared.Stepped.{Stepped}
 use Rattle.acts.proofs.RepresentsLaws.{live_working}
 use Rattle.performing.specs.Performing.{Performing}
-
--- ---- the kind byte
-module _ (kind v slot : ℕ) where
-  pub kind_assign : kind ≡ 1 → call_of kind v slot ≡ Calls.decide (decision_of true slot v)
-  unfolding call_of
-  kind_assign is = rw is refl
-
-  pub kind_remove : kind ≡ 2 → call_of kind v slot ≡ Calls.decide (decision_of false slot v)
-  unfolding call_of
-  kind_remove is = rw is refl
-
-  pub kind_mark : kind ≡ 3 → call_of kind v slot ≡ Calls.mark
-  unfolding call_of
-  kind_mark is = rw is refl
-
-  pub kind_back : kind ≡ 4 → call_of kind v slot ≡ Calls.back
-  unfolding call_of
-  kind_back is = rw is refl
-
-  pub kind_show : kind ≡ 5 → call_of kind v slot ≡ Calls.show slot
-  unfolding call_of
-  kind_show is = rw is refl
-
-  pub kind_upper : kind ≡ 6 → call_of kind v slot ≡ Calls.walls false v
-  unfolding call_of
-  kind_upper is = rw is refl
-
-  pub kind_lower : kind ≡ 7 → call_of kind v slot ≡ Calls.walls true v
-  unfolding call_of
-  kind_lower is = rw is refl
-
-  pub kind_none : kind ≡ 0 → call_of kind v slot ≡ Calls.unknown
-  unfolding call_of
-  kind_none is = rw is refl
-
--- ---- Acts, for a call by another name
-pub acts_at : {n k i : ℕ} {c d : Call} {session : Session} {m ce t h m' ce' t' h' : List ℕ} {r : Stepped} → c ≡ d
-    → Acts n k i d session m ce t h m' ce' t' h' r → Acts n k i c session m ce t h m' ce' t' h' r
-acts_at {n} {k} {i} {c} {d} {session} {m} {ce} {t} {h} {m'} {ce'} {t'} {h'} {r} is acts =
-    subst (λ (e : Call). Acts n k i e session m ce t h m' ce' t' h' r) (sym is) acts
 
 -- ---- what a call needs where no number refuses it
 and-true : (b : Bool) → b && true ≡ false → b ≡ false

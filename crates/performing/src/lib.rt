@@ -1,4 +1,4 @@
-// One call on a session that no number refuses, done as the plain machine of session_model does it: a match on the kind byte. Nothing is refused here. The
+// One call on a session that no number refuses, done as the plain machine of session_model does it. A call of no known kind is refused before. The
 // contract cites `Performing` of `specs/Performing.antt`, and `Acts` of acts.
 #![tactic(auto)]
 
@@ -27,41 +27,18 @@ pub fn perform(
         masks.old cells.old trail.old heights.old
         masks.new cells.new trail.new heights.new result }
 {
-    let kind = call.kind;
-    let v = call.value;
-    let slot = call.slot;
-    match kind {
-        1 => {
-            return decide(
-                masks, cells, trail, heights, n, k, session, i, true, slot, v,
-            );
-        }
-        2 => {
-            return decide(
-                masks, cells, trail, heights, n, k, session, i, false, slot, v,
-            );
-        }
-        3 => {
-            return mark(heights, session);
-        }
-        4 => {
-            return back(masks, cells, trail, heights, n, k, session);
-        }
-        5 => {
-            return show(masks, session, slot);
-        }
-        6 => {
-            return walls(cells, n, k, session, false, v);
-        }
-        7 => {
-            return walls(cells, n, k, session, true, v);
-        }
-        0 | 8..=255 => {
-            return Stepped {
-                session,
-                first: 267,
-                second: 0,
-            };
-        }
+    match call {
+        Call::Assign { slot, value } => decide(
+            masks, cells, trail, heights, n, k, session, i, true, slot, value,
+        ),
+        Call::Remove { slot, value } => decide(
+            masks, cells, trail, heights, n, k, session, i, false, slot, value,
+        ),
+        Call::Mark => mark(heights, session),
+        Call::Back => back(masks, cells, trail, heights, n, k, session),
+        Call::Show { slot } => show(masks, session, slot),
+        Call::UpperWalls { value } => walls(cells, n, k, session, false, value),
+        Call::LowerWalls { value } => walls(cells, n, k, session, true, value),
+        Call::Unknown => unreachable!(),
     }
 }

@@ -1,127 +1,73 @@
 // Settling, word for word: for each type and end the rules of a stable list are asked anew, over all slots, until none of them strikes
 // anything or one is broken.
-use crate::ROUNDS;
-use arrays::{CELLS, ENDS, Masks, Table, alone, cell, entry, fixed, has, mask, plus, set_mask};
+use crate::tables::Bounds;
+use crate::{ROUNDS, Stop};
+use arrays::{Masks, Size, alone, fixed, has};
 
-// What asking the rules found.
-const STILL: u8 = 0;
-
-const CHANGED: u8 = 1;
-
-const BROKEN: u8 = 2;
-
-// Settles the masks of n slots with the closed table of k types: 0 where they are stable, 1 where there is no stable list within them,
-// 2 where the rounds did not suffice.
-pub fn settle(n: usize, k: usize, lower: &Table, upper: &Table, masks: &mut Masks) -> u32 {
-    for round in 0..ROUNDS {
-        if any_empty(n, masks) {
-            return 1;
+// Settles the masks with the closed table.
+pub fn settle(size: Size, bounds: &Bounds, masks: &mut Masks) -> Result<(), Stop> {
+    for _ in 0..ROUNDS {
+        if (0..size.slots).any(|slot| masks.mask(slot) == 0) {
+            return Err(Stop::Dead);
         }
-        let found = pass(n, k, lower, upper, masks);
-        if found == BROKEN {
-            return 1;
-        }
-        if found == STILL {
-            return 0;
+        if !pass(size, bounds, masks)? {
+            return Ok(());
         }
     }
-    2
+    Err(Stop::Rounds)
 }
 
-fn any_empty(n: usize, masks: &Masks) -> bool {
-    for slot in 0..n {
-        if mask(masks, slot) == 0 {
-            return true;
+// Asks the rules for each type and each end from 1. Whether a mask changed.
+fn pass(size: Size, bounds: &Bounds, masks: &mut Masks) -> Result<bool, Stop> {
+    let mut changed = false;
+    for v in 0..size.table_types() {
+        for t in 1..size.table_ends() {
+            changed |= ask(v, t, bounds, masks)?;
         }
     }
-    false
+    Ok(changed)
 }
 
-// Asks the rules for each type and each end from 1.
-fn pass(n: usize, k: usize, lower: &Table, upper: &Table, masks: &mut Masks) -> u8 {
-    let mut found = STILL;
-    for p in 0..CELLS {
-        let v = p / ENDS;
-        let t = p % ENDS;
-        if k <= v || t == 0 || n < t {
-            continue;
-        }
-        let here = ask(v, t, entry(lower, p), entry(upper, p), masks);
-        if here == BROKEN {
-            return BROKEN;
-        }
-        if here == CHANGED {
-            found = CHANGED;
-        }
-    }
-    found
-}
-
-// Asks the rules for type v and end t, whose bounds are given.
-fn ask(v: usize, t: usize, lower: usize, upper: usize, masks: &mut Masks) -> u8 {
+// Asks the rules for type v and end t. Whether a mask changed.
+fn ask(v: usize, t: usize, bounds: &Bounds, masks: &mut Masks) -> Result<bool, Stop> {
+    let lower = bounds.lower.entry(v, t);
+    let upper = bounds.upper.entry(v, t);
     let p = possible(v, t, masks);
     let b = bound(v, t, masks);
     if p < lower || upper < b {
-        return BROKEN;
+        return Err(Stop::Dead);
     }
-    let mut found = STILL;
-    if p == lower && fix_all(v, t, masks) {
-        found = CHANGED;
+    let mut changed = false;
+    if p == lower {
+        changed |= change_open(v, t, masks, |_| alone(v));
     }
-    if b == upper && strike_all(v, t, masks) {
-        found = CHANGED;
+    if b == upper {
+        changed |= change_open(v, t, masks, |mask| mask & !alone(v));
     }
-    found
+    Ok(changed)
 }
 
 // P(v, t): the slots before t that have v.
 pub fn possible(v: usize, t: usize, masks: &Masks) -> usize {
-    let mut count = 0;
-    for slot in 0..t {
-        if !has(mask(masks, slot), v) {
-            continue;
-        }
-        count = plus(count, 1);
-    }
-    count
+    masks.count(t, |mask| has(mask, v))
 }
 
 // B(v, t): the slots before t that are fixed to v.
 pub fn bound(v: usize, t: usize, masks: &Masks) -> usize {
-    let mut count = 0;
-    for slot in 0..t {
-        if !fixed(mask(masks, slot), v) {
-            continue;
-        }
-        count = plus(count, 1);
-    }
-    count
+    masks.count(t, |mask| fixed(mask, v))
 }
 
-// Fixes each slot before t that has v to it. Whether a mask changed.
-fn fix_all(v: usize, t: usize, masks: &mut Masks) -> bool {
+// Gives each slot before t that has v and is not fixed to it the mask that the rule makes of its own. Whether there is one.
+fn change_open<F: Fn(u32) -> u32>(v: usize, t: usize, masks: &mut Masks, rule: F) -> bool
+    requires { F.IsAlwaysCallable rule }
+{
     let mut changed = false;
     for slot in 0..t {
-        let old = mask(masks, slot);
-        if !has(old, v) || fixed(old, v) {
-            continue;
+        let old = masks.mask(slot);
+        if has(old, v) && !fixed(old, v) {
+            masks.set_mask(slot, rule(old));
+            changed = true;
         }
-        set_mask(masks, slot, alone(v));
-        changed = true;
-    }
-    changed
-}
-
-// Strikes v from each slot before t that is not fixed to it. Whether a mask changed.
-fn strike_all(v: usize, t: usize, masks: &mut Masks) -> bool {
-    let mut changed = false;
-    for slot in 0..t {
-        let old = mask(masks, slot);
-        if !has(old, v) || fixed(old, v) {
-            continue;
-        }
-        set_mask(masks, slot, old & !alone(v));
-        changed = true;
     }
     changed
 }

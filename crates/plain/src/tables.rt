@@ -1,119 +1,123 @@
 // Closing, naively: the rules asked at each entry in turn, sweep after sweep, until a sweep changes nothing or an entry is crossed.
-use crate::ROUNDS;
-use arrays::{
-    CELLS, ENDS, Rows, Table, cell, entry, field, greater, less, plus, set_entry, smaller,
-};
+use crate::{ROUNDS, Stop};
+use arrays::{ENDS, Row, Size, TYPES, Table};
 
-// What asking the rules found.
-const STILL: u8 = 0;
-
-const CHANGED: u8 = 1;
-
-const CROSSED: u8 = 2;
-
-// The starting table of the first r rows. An upper of 65535 is above every end, so it bounds nothing.
-pub fn start(rows: &Rows, r: usize, lower: &mut Table, upper: &mut Table) {
-    no_rows(lower, upper);
-    for row in 0..r {
-        let p = cell(field(rows, row, 0), field(rows, row, 1));
-        let low = greater(entry(lower, p), field(rows, row, 2));
-        let high = smaller(entry(upper, p), field(rows, row, 3));
-        set_entry(lower, p, low);
-        set_entry(upper, p, high);
-    }
+// The table of bounds. Each side is a table of its own, since the rules, the walls and the tests go over one side at a time.
+#[derive(Clone, Copy)]
+pub struct Bounds {
+    pub lower: Table,
+    pub upper: Table,
 }
 
-// The starting table of no rows: from 0 to the end.
-fn no_rows(lower: &mut Table, upper: &mut Table) {
-    for p in 0..CELLS {
-        set_entry(lower, p, 0);
-        set_entry(upper, p, p % ENDS);
+impl Bounds {
+    // The starting table of the rows. An upper of 65535 is above every end, so it bounds nothing.
+    pub fn start(rows: &[Row]) -> Bounds {
+        let mut bounds = Bounds::no_rows();
+        for row in rows {
+            let v = row.board_type;
+            let t = row.end;
+            let low = bounds.lower.entry(v, t).max(row.lower);
+            let high = bounds.upper.entry(v, t).min(row.upper);
+            bounds.lower.set_entry(v, t, low);
+            bounds.upper.set_entry(v, t, high);
+        }
+        bounds
     }
-}
 
-// Closes the table of n slots and k types: 0 where it is closed, 1 where the book is dead, 2 where the rounds did not suffice.
-pub fn close(n: usize, k: usize, lower: &mut Table, upper: &mut Table) -> u32 {
-    for round in 0..ROUNDS {
-        let found = sweep(n, k, lower, upper);
-        if found == CROSSED {
-            return 1;
+    // The starting table of no rows: from 0 to the end.
+    fn no_rows() -> Bounds {
+        let mut upper = Table::zeros();
+        for v in 0..TYPES {
+            for t in 0..ENDS {
+                upper.set_entry(v, t, t);
+            }
         }
-        if found == STILL {
-            return 0;
+        Bounds {
+            lower: Table::zeros(),
+            upper,
         }
     }
-    2
-}
 
-// Asks the rules at each entry; left at the first that is crossed.
-fn sweep(n: usize, k: usize, lower: &mut Table, upper: &mut Table) -> u8 {
-    let mut found = STILL;
-    for p in 0..CELLS {
-        let v = p / ENDS;
-        let t = p % ENDS;
-        if k <= v || n < t {
-            continue;
+    // The sum of the uppers less the lowers.
+    pub fn width(&self, size: Size) -> usize {
+        let mut sum = 0usize;
+        for v in 0..size.table_types() {
+            for t in 0..size.table_ends() {
+                let room = self
+                    .upper
+                    .entry(v, t)
+                    .saturating_sub(self.lower.entry(v, t));
+                sum = sum.saturating_add(room);
+            }
         }
-        let here = visit(n, k, v, t, lower, upper);
-        if here == CROSSED {
-            return CROSSED;
-        }
-        if here == CHANGED {
-            found = CHANGED;
-        }
+        sum
     }
-    found
-}
 
-// Asks the rules at the entry of type v and end t. No upper is at most a number below 0.
-fn visit(n: usize, k: usize, v: usize, t: usize, lower: &mut Table, upper: &mut Table) -> u8 {
-    let p = cell(v, t);
-    let low = least_lower(n, v, t, less(t, others(k, v, t, upper)), lower);
-    let taken = others(k, v, t, lower);
-    let high = most_upper(n, v, t, less(t, taken), upper);
-    if t < taken || high < low {
-        return CROSSED;
+    // Closes the table.
+    pub fn close(&mut self, size: Size) -> Result<(), Stop> {
+        for _ in 0..ROUNDS {
+            if !self.sweep(size)? {
+                return Ok(());
+            }
+        }
+        Err(Stop::Rounds)
     }
-    if low == entry(lower, p) && high == entry(upper, p) {
-        return STILL;
+
+    // Asks the rules at each entry; left at the first that is crossed. Whether an entry changed.
+    fn sweep(&mut self, size: Size) -> Result<bool, Stop> {
+        let mut changed = false;
+        for v in 0..size.table_types() {
+            for t in 0..size.table_ends() {
+                changed |= self.visit(size, v, t)?;
+            }
+        }
+        Ok(changed)
     }
-    set_entry(lower, p, low);
-    set_entry(upper, p, high);
-    CHANGED
+
+    // Asks the rules at the entry of type v and end t. No upper is at most a number below 0. Whether the entry changed.
+    fn visit(&mut self, size: Size, v: usize, t: usize) -> Result<bool, Stop> {
+        let given = others(size, v, t, &self.upper);
+        let taken = others(size, v, t, &self.lower);
+        let low = least_lower(size, v, t, t.saturating_sub(given), &self.lower);
+        let high = most_upper(size, v, t, t.saturating_sub(taken), &self.upper);
+        if t < taken || high < low {
+            return Err(Stop::Dead);
+        }
+        let changed = low != self.lower.entry(v, t) || high != self.upper.entry(v, t);
+        self.lower.set_entry(v, t, low);
+        self.upper.set_entry(v, t, high);
+        Ok(changed)
+    }
 }
 
 // The sum of the other types' entries at end t.
-fn others(k: usize, v: usize, t: usize, table: &Table) -> usize {
-    let mut sum = 0;
-    for w in 0..k {
-        if w == v {
-            continue;
-        }
-        sum = plus(sum, entry(table, cell(w, t)));
-    }
-    sum
+fn others(size: Size, v: usize, t: usize, table: &Table) -> usize {
+    (0..size.types)
+        .filter(|w| *w != v)
+        .fold(0usize, |sum, w| sum.saturating_add(table.entry(w, t)))
 }
 
 // The least lower(t) that is no smaller than it is, and at least `across`, lower(t-1) and lower(t+1) - 1, where these exist.
-fn least_lower(n: usize, v: usize, t: usize, across: usize, lower: &Table) -> usize {
-    let mut low = greater(entry(lower, cell(v, t)), across);
+fn least_lower(size: Size, v: usize, t: usize, across: usize, lower: &Table) -> usize {
+    let mut low = lower.entry(v, t).max(across);
     if 0 < t {
-        low = greater(low, entry(lower, cell(v, t - 1)));
+        low = low.max(lower.entry(v, t - 1));
     }
-    if t < n {
-        low = greater(low, less(entry(lower, cell(v, t + 1)), 1));
+    if t < size.slots {
+        low = low.max(lower.entry(v, t + 1).saturating_sub(1));
     }
     low
 }
 
+// Not one function with least_lower: each step is another one (min for max, plus 1 for less 1), and a rule passed in for each would be longer.
 // The greatest upper(t) that is no larger than it is, and at most `across`, upper(t-1) + 1 and upper(t+1), where these exist.
-fn most_upper(n: usize, v: usize, t: usize, across: usize, upper: &Table) -> usize {
-    let mut high = smaller(entry(upper, cell(v, t)), across);
+fn most_upper(size: Size, v: usize, t: usize, across: usize, upper: &Table) -> usize {
+    let mut high = upper.entry(v, t).min(across);
     if 0 < t {
-        high = smaller(high, plus(entry(upper, cell(v, t - 1)), 1));
+        high = high.min(upper.entry(v, t - 1).saturating_add(1));
     }
-    if t < n {
-        high = smaller(high, entry(upper, cell(v, t + 1)));
+    if t < size.slots {
+        high = high.min(upper.entry(v, t + 1));
     }
     high
 }

@@ -1,50 +1,59 @@
-// Walls, by document 01's formula: each corner's slack is counted anew on the masks.
+// Walls, by their formula: each corner's slack is counted anew on the masks.
 use crate::lists::{bound, possible};
-use arrays::{Masks, Table, cell, entry, less, plus};
+use arrays::{Masks, Table};
 
-// How many upper walls (kind 6) or lower walls (kind 7) of type v stand; `bounds` is the closed table's uppers, or its lowers.
-pub fn walls(kind: u8, n: usize, v: usize, bounds: &Table, masks: &Masks) -> usize {
-    let mut count = 0;
-    for t in 0..n {
-        if !stands(kind, n, v, plus(t, 1), bounds, masks) {
-            continue;
+// Which bounds a wall or a corner belongs to.
+#[derive(Debug, Clone, Copy, PartialEq, Eq)]
+pub enum Side {
+    Upper,
+    Lower,
+}
+
+// One side of the bounds of one type, and the masks.
+#[derive(Clone, Copy)]
+pub struct Corners<'a> {
+    pub side: Side,
+    pub slots: usize,
+    pub board_type: usize,
+    // the closed table's uppers, or its lowers
+    pub bounds: &'a Table,
+    pub masks: &'a Masks,
+}
+
+impl Corners<'_> {
+    // How many walls stand.
+    pub fn walls(&self) -> usize {
+        (1..=self.slots).filter(|t| self.is_wall(*t)).count()
+    }
+
+    // Whether a wall stands at t: a corner whose slack is above 0 and below that of every later corner.
+    fn is_wall(&self, t: usize) -> bool {
+        let own = self.slack(t);
+        own != 0
+            && self.is_corner(t)
+            && (t..=self.slots)
+                .skip(1)
+                .all(|later| !self.is_corner(later) || own < self.slack(later))
+    }
+
+    // Upper less B at an upper corner, P less lower at a lower one. On stable masks neither is below 0.
+    fn slack(&self, t: usize) -> usize {
+        let here = self.bounds.entry(self.board_type, t);
+        match self.side {
+            Side::Upper => here.saturating_sub(bound(self.board_type, t, self.masks)),
+            Side::Lower => possible(self.board_type, t, self.masks).saturating_sub(here),
         }
-        count = plus(count, 1);
     }
-    count
-}
 
-// Whether a wall stands at t: a corner whose slack is above 0 and below that of every later corner.
-fn stands(kind: u8, n: usize, v: usize, t: usize, bounds: &Table, masks: &Masks) -> bool {
-    let own = slack(kind, v, t, bounds, masks);
-    if own == 0 || !corner(kind, n, v, t, bounds) {
-        return false;
-    }
-    for u in t..n {
-        let later = plus(u, 1);
-        if corner(kind, n, v, later, bounds) && slack(kind, v, later, bounds, masks) <= own {
-            return false;
+    // Whether the bounds have a corner at t, from 1 to n.
+    fn is_corner(&self, t: usize) -> bool {
+        let before = self.bounds.entry(self.board_type, t.saturating_sub(1));
+        let here = self.bounds.entry(self.board_type, t);
+        let after = self.bounds.entry(self.board_type, t.saturating_add(1));
+        let last = t == self.slots;
+        match self.side {
+            Side::Upper => here == before && (last || after == here.saturating_add(1)),
+            Side::Lower => here == before.saturating_add(1) && (last || after == here),
         }
     }
-    true
-}
-
-// Upper less B at an upper corner, P less lower at a lower one. On stable masks neither is below 0.
-fn slack(kind: u8, v: usize, t: usize, bounds: &Table, masks: &Masks) -> usize {
-    let bound_here = entry(bounds, cell(v, t));
-    if kind == 6 {
-        return less(bound_here, bound(v, t, masks));
-    }
-    less(possible(v, t, masks), bound_here)
-}
-
-// Whether the bounds of type v have a corner of the kind at t, from 1 to n.
-fn corner(kind: u8, n: usize, v: usize, t: usize, bounds: &Table) -> bool {
-    let before = entry(bounds, cell(v, less(t, 1)));
-    let here = entry(bounds, cell(v, t));
-    let after = entry(bounds, cell(v, plus(t, 1)));
-    if kind == 6 {
-        return here == before && (t == n || after == plus(here, 1));
-    }
-    here == plus(before, 1) && (t == n || after == here)
 }

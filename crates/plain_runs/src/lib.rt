@@ -2,133 +2,95 @@
 // the test program randoms that stands on both. The contracts say nothing, so it is proved to be safe and to end, and no more. Nothing is refused.
 #![tactic(auto)]
 
-use arrays::{Masks, Pile, Rows, Table, entry, less, ones, plus, set_entry, set_mask, wide};
-use plain::{Call, Session, make_call};
-use random_books::{
-    BOUNDS_MOVED, Bytes, CALLS, Case, Counts, SETTLED_STRUCK, Step, Words, add, byte, same,
-    tell_call, word_at,
-};
+use arrays::Masks;
+use plain::{Answer, Bounds, Call, Opened, Refusal, Session, Side, Stop, settle};
+use random_books::{Book, Comparison, Counter, Counts, FILL32, Step};
 
-// The closed table, left in lower and upper, 0 where the book is dead. Its answer.
-pub fn close_plainly(
-    case: Case,
-    rows: &Rows,
-    lower: &mut Table,
-    upper: &mut Table,
-    counts: &mut Counts,
-) -> u32 {
-    plain::start(rows, case.r, lower, upper);
-    let before = width(case, lower, upper);
-    let answer = plain::close(case.n, case.k, lower, upper);
-    if answer == 0 {
-        add(
-            counts,
-            BOUNDS_MOVED,
-            less(before, width(case, lower, upper)),
-        );
-    } else {
-        clear(lower);
-        clear(upper);
-    }
-    answer
+// The closed table.
+pub fn close_plainly(book: &Book, counts: &mut Counts) -> Result<Bounds, Stop> {
+    let mut bounds = Bounds::start(book.rows.as_slice());
+    let before = bounds.width(book.size);
+    bounds
+        .close(book.size)
+        .inspect_err(|_| counts.add(Counter::ClosedDead, 1))?;
+    let moved = before.saturating_sub(bounds.width(book.size));
+    counts.add(Counter::BoundsMoved, moved);
+    Ok(bounds)
 }
 
-// The sum of the uppers less the lowers.
-fn width(case: Case, lower: &Table, upper: &Table) -> usize {
-    let mut sum = 0;
-    for p in 0..256 {
-        if case.k <= p / 32 || case.n < p % 32 {
-            continue;
-        }
-        sum = plus(sum, less(entry(upper, p), entry(lower, p)));
-    }
-    sum
+// The closed table and the settled masks of a book with that closed table.
+pub fn settle_plainly(book: &Book, bounds: Bounds, counts: &mut Counts) -> Result<Opened, Stop> {
+    let slots = book.size.slots;
+    let mut masks = book.masks;
+    settle(book.size, &bounds, &mut masks).inspect_err(|_| counts.add(Counter::SettledDead, 1))?;
+    let struck = book.masks.ones(slots).saturating_sub(masks.ones(slots));
+    counts.add(Counter::SettledStruck, struck);
+    counts.add(Counter::Live, 1);
+    Ok(Opened { bounds, masks })
 }
 
-fn clear(table: &mut Table) {
-    for p in 0..256 {
-        set_entry(table, p, 0);
-    }
-}
-
-// The settled masks of a book that closing answered by `closed`, 0 where it is dead. Its answer.
-pub fn settle_plainly(
-    case: Case,
-    closed: u32,
-    lower: &Table,
-    upper: &Table,
-    masks: &mut Masks,
-    counts: &mut Counts,
-) -> u32 {
-    let before = ones(case.n, masks);
-    let mut answer = closed;
-    if closed == 0 {
-        answer = plain::settle(case.n, case.k, lower, upper, masks);
-    }
-    if answer == 0 {
-        add(counts, SETTLED_STRUCK, less(before, ones(case.n, masks)));
-    } else {
-        no_types(masks);
-    }
-    answer
-}
-
-fn no_types(masks: &mut Masks) {
-    for slot in 0..32 {
-        set_mask(masks, slot, 0);
-    }
-}
-
-// Makes the calls on the plain machine and compares the words of each.
+// Makes the calls on the plain machine and compares the words of each; what is past them is what was there. The last masks.
 pub fn run_calls(
-    case: Case,
-    opened: bool,
-    calls: &Bytes,
-    count: usize,
-    lower: &Table,
-    upper: &Table,
-    masks: &mut Masks,
-    pile: &mut Pile,
-    words: &Words,
+    book: &Book,
+    opened: Option<&Opened>,
+    calls: &[[u8; 4]],
+    words: &[[u32; 2]],
     counts: &mut Counts,
-) {
-    let step = Step {
-        book: case.number,
-        step: 4,
-    };
-    let mut session = Session {
-        n: case.n,
-        k: case.k,
-        idle: case.idle,
-        opened: opened,
-        dead: !opened,
-        marks: 0,
-    };
-    for i in 0..count {
-        let call = call_at(calls, i);
-        let told = make_call(session, call, lower, upper, masks, pile);
-        session.dead = told.dead;
-        session.marks = told.marks;
-        add(counts, CALLS, 1);
-        tell_call(call.kind, told.first, told.second, counts);
-        same(counts, step, i, word_at(words, i, 0), wide(told.first));
-        same(counts, step, i, word_at(words, i, 1), wide(told.second));
+) -> Masks {
+    let mut session = Session::open(book.size, book.idle, opened);
+    for (i, found) in words.iter().enumerate() {
+        let wanted = match calls.get(i) {
+            Some(call) => answer_call(&mut session, *call, counts),
+            None => [FILL32; 2],
+        };
+        Comparison::new(book.number, Step::Calls, counts).same_words(i, *found, wanted);
+    }
+    *session.masks()
+}
+
+// Makes a call and counts what it answers. Its two words.
+fn answer_call(session: &mut Session, call: [u8; 4], counts: &mut Counts) -> [u32; 2] {
+    counts.add(Counter::Calls, 1);
+    match make_call(session, call) {
+        Ok(answer) => {
+            tell_answer(answer, counts);
+            answer.words()
+        }
+        Err(refusal) => {
+            counts.add(counter_of(refusal), 1);
+            [refusal.word(), 0]
+        }
     }
 }
 
-// Call i of the list.
-fn call_at(calls: &Bytes, i: usize) -> Call {
-    let at = i % 512 * 4;
-    let low = number_of(byte(calls, at + 2));
-    let high = number_of(byte(calls, at + 3));
-    Call {
-        kind: byte(calls, at),
-        board_type: number_of(byte(calls, at + 1)),
-        slot: plus(low, high % 256 * 256),
+fn make_call(session: &mut Session, call: [u8; 4]) -> Result<Answer, Refusal> {
+    session.make_call(Call::try_from(call)?)
+}
+
+// Counts an answer.
+fn tell_answer(answer: Answer, counts: &mut Counts) {
+    match answer {
+        Answer::Struck(struck) => {
+            counts.add(Counter::LiveDecisions, 1);
+            counts.add(Counter::Struck, struck as usize);
+        }
+        Answer::Stopped(Stop::Dead) => counts.add(Counter::DeadDecisions, 1),
+        Answer::Stopped(Stop::Rounds) => {}
+        Answer::Mask(mask) => counts.add_if(Counter::Shown, mask),
+        Answer::Walls(Side::Upper, walls) => counts.add_if(Counter::UpperWalls, walls),
+        Answer::Walls(Side::Lower, walls) => counts.add_if(Counter::LowerWalls, walls),
+        Answer::Done => counts.add(Counter::MarksAndBacks, 1),
     }
 }
 
-// The same number as an index.
-fn number_of(x: u8) -> usize {
-    x as usize
+// What counts a refusal.
+fn counter_of(refusal: Refusal) -> Counter {
+    match refusal {
+        Refusal::Kind => Counter::RefusedKind,
+        Refusal::Slot => Counter::RefusedSlot,
+        Refusal::Type => Counter::RefusedType,
+        Refusal::NoOpenMark => Counter::RefusedBack,
+        Refusal::WhileDead => Counter::RefusedDead,
+        Refusal::TooManyMarks => Counter::RefusedMark,
+    }
 }

@@ -6,10 +6,10 @@
 
 ghost use Rattle.std.specs.Prelude.{◌*◌, ◌≤◌, length};
 
-use answer::Answer;
-use book::Limits;
+use answer::{Refusal, Verdict};
+use entries_model::FULL_LIMITS;
+use full_reads::read_full;
 use session::run_session;
-use std::io::Read;
 use std::rt::Files;
 use std::{fs, io};
 
@@ -20,14 +20,9 @@ fn main(rt: HostRuntime) -> io::Result<()> {
     let mut masks = [0u32; 256];
     let book_end = read_file(&rt, "book.bin", &mut book);
     let calls_end = read_file(&rt, "calls.bin", &mut calls);
-    let limits = Limits {
-        slots: 256,
-        values: 32,
-        rows: 1024,
-    };
     let answer = run_session(
         &book[..book_end],
-        limits,
+        FULL_LIMITS,
         &calls[..calls_end],
         &mut answers,
         &mut masks,
@@ -47,20 +42,6 @@ fn read_file(rt: &impl Files, path: &str, buf: &mut [u8]) -> usize
     }
 }
 
-// Reads until buf is full, the file ends or a read fails: each turn but the last reads a byte at least. How many bytes were read.
-fn read_full(file: &mut impl Read, buf: &mut [u8]) -> usize
-    ensures { result ≤ length buf.new }
-{
-    let mut filled = 0;
-    for _ in 0..buf.len() {
-        match file.read(&mut buf[filled..]) {
-            Ok(0) | Err(_) => break,
-            Ok(count) => filled += count,
-        }
-    }
-    filled
-}
-
 // The number of slots of a book, at most 256.
 fn mask_count(book: &[u8]) -> usize
     ensures { result ≤ 256 }
@@ -68,17 +49,13 @@ fn mask_count(book: &[u8]) -> usize
     if book.len() < 12 {
         return 0;
     }
-    let n = book::slots(book);
-    if 256 < n {
-        return 256;
-    }
-    n
+    book::slots(book).min(256)
 }
 
 // Prints what the session answered.
 fn report(
     rt: &impl Print,
-    answer: Answer,
+    answer: Result<Verdict, Refusal>,
     answers: &[u32],
     count: usize,
     masks: &[u32],
@@ -88,9 +65,9 @@ fn report(
     requires slots { n ≤ length masks.now }
 {
     match answer {
-        Answer::Refused(number) => return println!(rt; "refused {number}"),
-        Answer::Live => println!(rt; "open 0")?,
-        Answer::Dead => println!(rt; "open 1")?,
+        Ok(Verdict::Live) => println!(rt; "open 0")?,
+        Ok(Verdict::Dead) => println!(rt; "open 1")?,
+        Err(refusal) => return println!(rt; "refused {}", u32::from(refusal)),
     }
     print_answers(rt, answers, count)?;
     print_masks(rt, masks, n)

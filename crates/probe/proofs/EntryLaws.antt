@@ -1,6 +1,6 @@
 -- From an opened book to the bytes of its probes: what the trials need (`opened_trying`), and that their bytes are those of the entry, live (`probes_live`) and
 -- dead (`probes_dead`). No contract cites this file. Assumes nothing.
-use mathlib.Core.Path.{◌≡◌, refl, sym, ap, ◌∙◌, subst}
+use mathlib.Core.Path.{◌≡◌, refl, sym, ap, ◌∙◌}
 use mathlib.Core.List.{List, ◌++◌}
 use mathlib.Core.Option.{Option, none, some}
 use Prim.Native.Nat.{ℕ, ◌/◌, ◌<◌}
@@ -19,9 +19,7 @@ use Rattle.session_model.specs.Calls.{call_at, decide}
 use Rattle.session_model.specs.Decisions.{assign, cut}
 use Rattle.session_model.proofs.BookRunLaws.{rules_of_settle, rules_of_closed}
 use Rattle.session_fault.specs.Entry.{most_marks, opened_word}
-use Rattle.outcomes.specs.declared.Outcome as Opened
-use Rattle.outcomes.specs.declared.Outcome.TheVariants as Opens
-use Rattle.book_opening.specs.State.{BookState, OpensBook}
+use Rattle.book_opening.specs.State.{BookState}
 use Rattle.probe_model.specs.Probe.{call_slot, call_value, probe_byte, ProbesGood}
 use Rattle.probe_model.proofs.ProbeLaws.{probe_settles, probe_unsettles, probe_shut, bytes_are, call_assigns}
 use Rattle.probe_model.proofs.FaultLaws.{unrefused_slot, unrefused_value}
@@ -93,10 +91,3 @@ module _ {b calls D masks : List ℕ} (ready : ProbeReady b calls D masks) where
   probes_dead shut =
       written 1 (replicate (length calls / 4) 1) (sym (ap opened_word shut)) (length-replicate (length calls / 4) 1)
       (λ i i<m. get_or-replicate (length calls / 4) i 1 0 i<m ∙ sym (probe_shut b (call_at calls i) shut))
-
--- what the outcome of the opening says
-pub opened_live : (b M c t L U : List ℕ) {h : ℕ} (r : Opened.Outcome) → r ≡ Opens.Live h → OpensBook b M c t L U r → BookState b M c t L U h
-opened_live b M c t L U r is opens = subst (λ (o : Opened.Outcome). OpensBook b M c t L U o) is opens
-
-pub opened_dead : (b M c t L U : List ℕ) {h : ℕ} (r : Opened.Outcome) → r ≡ Opens.Dead h → OpensBook b M c t L U r → settled_book b ≡ none
-opened_dead b M c t L U r is opens = subst (λ (o : Opened.Outcome). OpensBook b M c t L U o) is opens

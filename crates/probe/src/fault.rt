@@ -1,72 +1,64 @@
-// The number that refuses a book, a list of assign calls or the output lent with them. The contracts cite probe_model's `specs/Probe.antt`.
+// What refuses a book, a list of assign calls or the output lent with them. The contracts cite probe_model's `specs/Probe.antt`.
 ghost use Rattle.std.specs.Prelude.{◌≡◌, ◌*◌, ◌≤◌, length};
-ghost use Rattle.book.specs.Refusal.{first_of};
+ghost use Rattle.book.specs.Refusal.{first_of, number_of};
 ghost use Rattle.probe_model.specs.Probe.{call_fault, call_fault_at, probe_fault};
 
 use crate::listed::{kind_in, slot_in, value_in};
-use book::{Limits, number, slots, values};
+use answer::Refusal;
+use book::{Limits, slots, values};
 use reader::read;
 
 // The longest list in bytes.
 const MOST_BYTES: usize = 16384;
 
-// The number that refuses, or 0: the book's, 10, that of the first refused call, 9.
-pub fn fault(book: &[u8], limits: Limits, calls: &[u8], room: usize) -> u8
-    ensures { result ≡ probe_fault limits book.now calls.now room }
+// What refuses: the book's refusal, 10, that of the first refused call, 9.
+pub fn check(book: &[u8], limits: Limits, calls: &[u8], room: usize) -> Result<(), Refusal>
+    ensures { number_of result ≡ probe_fault limits book.now calls.now room }
 {
-    let number = number(read(book, limits));
-    if number != 0 {
-        return number as u8;
-    }
+    read(book, limits)?;
     if calls.len() % 4 != 0 {
-        return 10;
+        return Err(Refusal::CallList);
     }
     if MOST_BYTES < calls.len() {
-        return 10;
+        return Err(Refusal::CallList);
     }
     let count = calls.len() / 4;
-    let bad = calls_fault(calls, count, slots(book), values(book));
-    if bad != 0 {
-        return bad;
-    }
+    check_calls(calls, count, slots(book), values(book))?;
     if room < count {
-        return 9;
+        return Err(Refusal::OutputTooShort);
     }
-    0
+    Ok(())
 }
 
-// The number of the first of count calls that is refused, or 0.
-fn calls_fault(calls: &[u8], count: usize, n: usize, k: usize) -> u8
+// The refusal of the first of count calls that is refused.
+fn check_calls(calls: &[u8], count: usize, n: usize, k: usize) -> Result<(), Refusal>
     requires { 4 * count ≤ length calls.now }
-    ensures { result ≡ first_of count (call_fault_at n k calls.now) }
+    ensures { number_of result ≡ first_of count (call_fault_at n k calls.now) }
 {
     for i in 0..count {
-        let refused = call_fault(
+        check_call(
             kind_in(calls, i),
             value_in(calls, i),
             slot_in(calls, i),
             n,
             k,
-        );
-        if refused != 0 {
-            return refused;
-        }
+        )?;
     }
-    0
+    Ok(())
 }
 
-// The number that refuses one call, or 0.
-fn call_fault(kind: usize, v: usize, slot: usize, n: usize, k: usize) -> u8
-    ensures { result ≡ call_fault n k kind v slot }
+// What refuses one call.
+fn check_call(kind: usize, v: usize, slot: usize, n: usize, k: usize) -> Result<(), Refusal>
+    ensures { number_of result ≡ call_fault n k kind v slot }
 {
     if kind != 1 {
-        return 11;
+        return Err(Refusal::CallKind);
     }
     if n <= slot {
-        return 12;
+        return Err(Refusal::CallSlot);
     }
     if k <= v {
-        return 13;
+        return Err(Refusal::CallType);
     }
-    0
+    Ok(())
 }

@@ -19,7 +19,7 @@ pub fn raise(cells: &mut [u16], n: usize, slot: usize, tag: usize, note: usize)
         unjoin(cells, n, note);
         return;
     }
-    let z = wide(cells[0]);
+    let z = cells[0] as usize;
     unspend(cells, z, note);
 }
 
@@ -45,7 +45,7 @@ fn unjoin(cells: &mut [u16], n: usize, p: usize)
     requires { (p ≤ n) × (n < length cells.old) × (n < 1024) }
     ensures { cells.new ≡ parted n p cells.old }
 {
-    let c = wide(cells[p]);
+    let c = cells[p] as usize;
     if c < 1024 {
         return;
     }
@@ -72,10 +72,4 @@ fn split(cells: &mut [u16], p: usize, t: usize)
 {
     cells[p] = cells[t];
     cells[t] = 0;
-}
-
-fn wide(x: u16) -> usize
-    ensures { (result ≡ x) × (result < 65536) }
-{
-    x as usize
 }

@@ -1,176 +1,268 @@
-// Random books, around a hidden plan. The arrays of eight say what a style of books is like.
-use crate::bytes::{Bytes, put8, put16, put32};
-use crate::random::{below, in_eight};
-use arrays::{
-    Masks, Numbers, Rows, alone, entry, field, less, mask, plus, set_entry, set_mask, smaller, wide,
-};
+// Random books, around a hidden plan. A style says what a book is like.
+use crate::bytes::Bytes;
+use crate::random::Random;
+use arrays::{Masks, Row, Rows, SLOTS, Size, alone};
 
-// A book's counts of slots, types and rows, its idle byte, and its number in the run.
+// A book, and its number in the run.
 #[derive(Clone, Copy)]
-pub struct Case {
+pub struct Book {
     pub number: usize,
-    pub n: usize,
-    pub k: usize,
-    // 0 where no type is idle, else that type plus 1
-    pub idle: usize,
-    pub r: usize,
+    pub size: Size,
+    // the idle type
+    pub idle: Option<usize>,
+    pub masks: Masks,
+    pub rows: Rows,
 }
 
-// Eight styles of books, by the book's number: tight, near, loose, thin masks, masks off the plan, stray rows, few ends, some of all.
-// The longest stretch of one type in the plan.
-const STRETCH: [usize; 8] = [3, 4, 6, 3, 4, 3, 5, 4];
-// In so many of eight cases a mask has a type that is not its own.
-const OTHERS: [usize; 8] = [8, 8, 8, 4, 2, 8, 6, 5];
-// In so many of eight cases a mask's own type is not the plan's.
-const ASTRAY: [usize; 8] = [0, 0, 0, 0, 4, 0, 0, 1];
-// The most rows.
-const ROWS: [usize; 8] = [24, 24, 8, 20, 16, 20, 60, 12];
-// The farthest that a bound lies from the plan's count.
-const SLACK: [usize; 8] = [0, 1, 5, 2, 1, 2, 2, 3];
-// In so many of eight cases a row has nothing to do with the plan.
-const STRAYS: [usize; 8] = [0, 0, 0, 0, 0, 1, 0, 1];
-// The rows have the last so many ends.
-const ENDS: [usize; 8] = [32, 32, 32, 32, 32, 32, 3, 32];
+// What a style of books is like.
+#[derive(Clone, Copy)]
+struct Style {
+    // the longest stretch of one type in the plan
+    stretch: usize,
+    // in so many of eight cases a mask has a type that is not its own
+    others: usize,
+    // in so many of eight cases a mask's own type is not the plan's
+    astray: usize,
+    // the most rows
+    rows: usize,
+    // the farthest that a bound lies from the plan's count
+    slack: usize,
+    // in so many of eight cases a row has nothing to do with the plan
+    strays: usize,
+    // the rows have the last so many ends
+    ends: usize,
+}
 
-// A book: its masks and rows, and its counts.
-pub fn make_book(seed: &mut u64, number: usize, masks: &mut Masks, rows: &mut Rows) -> Case {
-    let n = plus(1, below(seed, 24));
-    let k = plus(1, below(seed, 6));
-    let mut plan = [0usize; 256];
-    make_plan(seed, number, n, k, &mut plan);
-    make_masks(seed, number, n, k, &plan, masks);
-    let r = below(seed, plus(ROWS[number % 8], 1));
-    let case = Case {
-        number: number,
-        n: n,
-        k: k,
-        idle: idle_byte(number, k),
-        r: r,
-    };
-    make_rows(seed, case, &plan, rows);
-    case
+// Tight bounds.
+const TIGHT: Style = Style {
+    stretch: 3,
+    others: 8,
+    astray: 0,
+    rows: 24,
+    slack: 0,
+    strays: 0,
+    ends: 32,
+};
+
+// Bounds near the plan.
+const NEAR: Style = Style {
+    stretch: 4,
+    others: 8,
+    astray: 0,
+    rows: 24,
+    slack: 1,
+    strays: 0,
+    ends: 32,
+};
+
+// Loose bounds.
+const LOOSE: Style = Style {
+    stretch: 6,
+    others: 8,
+    astray: 0,
+    rows: 8,
+    slack: 5,
+    strays: 0,
+    ends: 32,
+};
+
+// Masks of few types.
+const THIN: Style = Style {
+    stretch: 3,
+    others: 4,
+    astray: 0,
+    rows: 20,
+    slack: 2,
+    strays: 0,
+    ends: 32,
+};
+
+// Masks off the plan.
+const OFF: Style = Style {
+    stretch: 4,
+    others: 2,
+    astray: 4,
+    rows: 16,
+    slack: 1,
+    strays: 0,
+    ends: 32,
+};
+
+// Stray rows.
+const STRAY: Style = Style {
+    stretch: 3,
+    others: 8,
+    astray: 0,
+    rows: 20,
+    slack: 2,
+    strays: 1,
+    ends: 32,
+};
+
+// Rows of few ends.
+const FEW_ENDS: Style = Style {
+    stretch: 5,
+    others: 6,
+    astray: 0,
+    rows: 60,
+    slack: 2,
+    strays: 0,
+    ends: 3,
+};
+
+// Some of all.
+const MIXED: Style = Style {
+    stretch: 4,
+    others: 5,
+    astray: 1,
+    rows: 12,
+    slack: 3,
+    strays: 1,
+    ends: 32,
+};
+
+// The styles by turns, by the book's number.
+const STYLES: [Style; 8] = [TIGHT, NEAR, LOOSE, THIN, OFF, STRAY, FEW_ENDS, MIXED];
+
+// A book of the run.
+pub fn make_book(random: &mut Random, number: usize) -> Book {
+    let slots = random.below(24).saturating_add(1);
+    let types = random.below(6).saturating_add(1);
+    let size = Size { slots, types };
+    let plan = Plan::draw(random, STYLES[number % 8], size);
+    Book {
+        number,
+        size,
+        idle: idle_type(number, types),
+        masks: plan.draw_masks(random),
+        rows: plan.draw_rows(random),
+    }
 }
 
 // By turns no idle type and each of the types.
-fn idle_byte(number: usize, k: usize) -> usize {
-    number % (k % 32 + 1)
+fn idle_type(number: usize, types: usize) -> Option<usize> {
+    (number % (types % 32 + 1)).checked_sub(1)
 }
 
-// A type for each slot, in stretches of one type.
-fn make_plan(seed: &mut u64, style: usize, n: usize, k: usize, plan: &mut Numbers) {
-    let mut v = 0;
-    let mut left = 0;
-    for slot in 0..n {
-        if left == 0 {
-            v = below(seed, k);
-            left = plus(1, below(seed, STRETCH[style % 8]));
+// A hidden plan of a book: a type for each slot.
+#[derive(Clone, Copy)]
+struct Plan {
+    style: Style,
+    size: Size,
+    types: [usize; SLOTS],
+}
+
+impl Plan {
+    // A plan in stretches of one type.
+    fn draw(random: &mut Random, style: Style, size: Size) -> Plan {
+        let mut types = [0; SLOTS];
+        let mut v = 0;
+        let mut left = 0usize;
+        for planned in types.iter_mut().take(size.slots) {
+            if left == 0 {
+                v = random.below(size.types);
+                left = random.below(style.stretch).saturating_add(1);
+            }
+            *planned = v;
+            left = left.saturating_sub(1);
         }
-        set_entry(plan, slot, v);
-        left = less(left, 1);
+        Plan { style, size, types }
     }
-}
 
-// For each slot the plan's type or another, and some more.
-fn make_masks(seed: &mut u64, style: usize, n: usize, k: usize, plan: &Numbers, masks: &mut Masks) {
-    for slot in 0..n {
-        let mut own = entry(plan, slot);
-        if in_eight(seed, ASTRAY[style % 8]) {
-            own = below(seed, k);
+    // For each slot the plan's type or another, and some more.
+    fn draw_masks(&self, random: &mut Random) -> Masks {
+        let mut masks = Masks::zeros();
+        for (slot, planned) in self.types.iter().take(self.size.slots).enumerate() {
+            let own = if random.in_eight(self.style.astray) {
+                random.below(self.size.types)
+            } else {
+                *planned
+            };
+            masks.set_mask(slot, self.draw_mask(random, own));
         }
-        let made = make_mask(seed, k, own, OTHERS[style % 8]);
-        set_mask(masks, slot, made);
+        masks
     }
-}
 
-// A mask with type `own`, and each other type in so many of eight cases.
-fn make_mask(seed: &mut u64, k: usize, own: usize, others: usize) -> u32 {
-    let mut made = alone(own);
-    for v in 0..k {
-        if !in_eight(seed, others) {
-            continue;
+    // A mask with type `own`, and each other type in so many of eight cases.
+    fn draw_mask(&self, random: &mut Random, own: usize) -> u32 {
+        let mut made = alone(own);
+        for v in 0..self.size.types {
+            if random.in_eight(self.style.others) {
+                made |= alone(v);
+            }
         }
-        made = made | alone(v);
+        made
     }
-    made
-}
 
-fn make_rows(seed: &mut u64, case: Case, plan: &Numbers, rows: &mut Rows) {
-    for row in 0..case.r {
-        make_row(seed, case, plan, row, rows);
-    }
-}
-
-// A row near the plan's count, or a stray one; one in four has no lower bound, and one in four no upper.
-fn make_row(seed: &mut u64, case: Case, plan: &Numbers, row: usize, rows: &mut Rows) {
-    let style = case.number % 8;
-    let n = case.n;
-    let v = below(seed, case.k);
-    let end = less(n, below(seed, smaller(n, ENDS[style])));
-    let slack = plus(SLACK[style], 1);
-    let count = planned(plan, v, end);
-    let mut lower = less(count, below(seed, slack));
-    let mut upper = plus(count, below(seed, slack));
-    if in_eight(seed, STRAYS[style]) {
-        lower = below(seed, plus(n, 1));
-        upper = below(seed, plus(n, 1));
-    }
-    if in_eight(seed, 2) {
-        lower = 0;
-    }
-    if in_eight(seed, 2) {
-        upper = 65535;
-    }
-    set_row(rows, row, v, end, lower, upper);
-}
-
-fn set_row(rows: &mut Rows, row: usize, v: usize, end: usize, lower: usize, upper: usize) {
-    let at = row % 64 * 4;
-    set_entry(rows, at, v);
-    set_entry(rows, at + 1, end);
-    set_entry(rows, at + 2, lower);
-    set_entry(rows, at + 3, upper);
-}
-
-// How many of the plan's first `end` slots have type v.
-fn planned(plan: &Numbers, v: usize, end: usize) -> usize {
-    let mut count = 0;
-    for slot in 0..end {
-        if entry(plan, slot) != v {
-            continue;
+    fn draw_rows(&self, random: &mut Random) -> Rows {
+        let mut rows = Rows::new();
+        for _ in 0..random.below(self.style.rows.saturating_add(1)) {
+            rows.push(self.draw_row(random));
         }
-        count = plus(count, 1);
+        rows
     }
-    count
-}
 
-// Writes the book. How many bytes it has.
-pub fn write_book(case: Case, masks: &Masks, rows: &Rows, bytes: &mut Bytes) -> usize {
-    let rows_at = 12 + case.n % 32 * 4;
-    let end = rows_at + case.r % 65 * 8;
-    put16(bytes, 0, case.n);
-    put8(bytes, 2, case.k);
-    put8(bytes, 3, case.idle);
-    put16(bytes, 4, case.r);
-    put16(bytes, 6, 12);
-    put16(bytes, 8, rows_at);
-    put16(bytes, 10, end);
-    write_masks(case.n, masks, bytes);
-    write_rows(rows_at, case.r, rows, bytes);
-    end
-}
+    // A row near the plan's count, or a stray one; one in four has no lower bound, and one in four no upper.
+    fn draw_row(&self, random: &mut Random) -> Row {
+        let slots = self.size.slots;
+        let board_type = random.below(self.size.types);
+        let end = slots.saturating_sub(random.below(slots.min(self.style.ends)));
+        let slack = self.style.slack.saturating_add(1);
+        let count = self.count(board_type, end);
+        let mut lower = count.saturating_sub(random.below(slack));
+        let mut upper = count.saturating_add(random.below(slack));
+        if random.in_eight(self.style.strays) {
+            lower = random.below(slots.saturating_add(1));
+            upper = random.below(slots.saturating_add(1));
+        }
+        if random.in_eight(2) {
+            lower = 0;
+        }
+        if random.in_eight(2) {
+            upper = 65535;
+        }
+        Row {
+            board_type,
+            end,
+            lower,
+            upper,
+        }
+    }
 
-fn write_masks(n: usize, masks: &Masks, bytes: &mut Bytes) {
-    for slot in 0..n {
-        put32(bytes, 12 + slot % 32 * 4, wide(mask(masks, slot)));
+    // How many of the plan's first `end` slots have type v.
+    fn count(&self, v: usize, end: usize) -> usize {
+        self.types
+            .iter()
+            .take(end)
+            .filter(|planned| **planned == v)
+            .count()
     }
 }
 
-fn write_rows(rows_at: usize, r: usize, rows: &Rows, bytes: &mut Bytes) {
-    for row in 0..r {
-        let at = plus(rows_at, row % 64 * 8);
-        put16(bytes, at, field(rows, row, 0));
-        put16(bytes, plus(at, 2), field(rows, row, 1));
-        put16(bytes, plus(at, 4), field(rows, row, 2));
-        put16(bytes, plus(at, 6), field(rows, row, 3));
+impl Book {
+    // The book as bytes.
+    pub fn bytes(&self) -> Bytes {
+        let slots = self.size.slots;
+        let rows = self.rows.as_slice();
+        let rows_at = 12 + slots % 32 * 4;
+        let end = rows_at + rows.len() * 8;
+        let mut bytes = Bytes::new();
+        bytes.put(2, slots);
+        bytes.put(1, self.size.types);
+        bytes.put(1, self.idle.map_or(0, |v| v.saturating_add(1)));
+        bytes.put(2, rows.len());
+        bytes.put(2, 12);
+        bytes.put(2, rows_at);
+        bytes.put(2, end);
+        for slot in 0..slots {
+            bytes.put(4, self.masks.mask(slot) as usize);
+        }
+        for row in rows {
+            bytes.put(2, row.board_type);
+            bytes.put(2, row.end);
+            bytes.put(2, row.lower);
+            bytes.put(2, row.upper);
+        }
+        bytes
     }
 }

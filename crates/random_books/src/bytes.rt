@@ -1,43 +1,36 @@
-// The bytes of books and call lists, little-endian. A store past the array does nothing.
+// The bytes of books and call lists, little-endian. What there is no room for is left out.
+ghost use Rattle.std.specs.Prelude.{◌≤◌};
 
 // Room for a book of 31 slots and 64 rows, or for 512 calls.
-pub type Bytes = [u8; 2048];
+const ROOM: usize = 2048;
 
-// Byte p.
-pub fn byte(bytes: &Bytes, p: usize) -> u8 {
-    if p < 2048 {
-        return bytes[p];
+// The bytes written, in order.
+#[derive(Clone, Copy)]
+pub struct Bytes {
+    bytes: [u8; ROOM],
+    count: usize,
+    ghost within: { count ≤ 2048 },
+}
+
+impl Bytes {
+    pub fn new() -> Bytes {
+        Bytes {
+            bytes: [0; ROOM],
+            count: 0,
+        }
     }
-    0
-}
 
-// Puts x, cut to 8 bits, at p.
-pub fn put8(bytes: &mut Bytes, p: usize, x: usize) {
-    if p < 2048 {
-        bytes[p] = (x % 256) as u8;
+    pub fn as_slice(&self) -> &[u8] {
+        &self.bytes[..self.count]
     }
-}
 
-// Puts x, cut to 16 bits, at p.
-pub fn put16(bytes: &mut Bytes, p: usize, x: usize) {
-    put8(bytes, p, x);
-    put8(bytes, arrays::plus(p, 1), x / 256);
-}
-
-// Puts x, cut to 32 bits, at p.
-pub fn put32(bytes: &mut Bytes, p: usize, x: usize) {
-    put16(bytes, p, x);
-    put16(bytes, arrays::plus(p, 2), x / 65536);
-}
-
-// The first `end` bytes; all where there are not so many.
-pub fn front(bytes: &Bytes, end: usize) -> &[u8] {
-    part(bytes, end)
-}
-
-fn part(bytes: &[u8], end: usize) -> &[u8] {
-    if end <= bytes.len() {
-        return &bytes[..end];
+    // Adds the lowest bytes of x, so many as the width says.
+    pub fn put(&mut self, width: usize, x: usize) {
+        for byte in x.to_le_bytes().iter().take(width) {
+            if self.count < ROOM {
+                self.bytes[self.count] = *byte;
+                self.count += 1;
+            }
+        }
     }
-    bytes
 }

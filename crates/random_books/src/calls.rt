@@ -1,45 +1,56 @@
 // Random call lists: all seven kinds, unknown kinds, slots and types within and out of range. Each 37th list is long and has more marks
 // than may be open.
-use crate::bytes::{Bytes, put8, put16};
-use crate::random::{below, in_eight};
-use arrays::plus;
+use crate::bytes::Bytes;
+use crate::random::Random;
+use arrays::Size;
+
+// The kinds of calls. They are bytes and no enum, since a list has unknown kinds too.
+const ASSIGN: usize = 1;
+
+const REMOVE: usize = 2;
+
+const MARK: usize = 3;
+
+const BACK: usize = 4;
+
+const SHOW: usize = 5;
+
+const UPPER_WALLS: usize = 6;
+
+const LOWER_WALLS: usize = 7;
 
 // How many calls the book's list has.
-pub fn call_count(number: usize) -> usize {
-    if number % 37 == 0 {
-        return 480;
-    }
-    40
+fn call_count(number: usize) -> usize {
+    if number % 37 == 0 { 480 } else { 40 }
 }
 
-// A list for a book of n slots and k types.
-pub fn make_calls(seed: &mut u64, number: usize, n: usize, k: usize, calls: &mut Bytes) {
+// The list for a book.
+pub fn make_calls(random: &mut Random, number: usize, size: Size) -> Bytes {
+    let mut calls = Bytes::new();
     let count = call_count(number);
     for i in 0..count {
-        let at = i % 512 * 4;
-        let kind = make_kind(seed, i < 4 || plus(i, 160) < count);
-        let v = make_type(seed, k);
-        let slot = make_slot(seed, n);
-        put8(calls, at, kind);
-        put8(calls, at + 1, v);
-        put16(calls, at + 2, slot);
+        let marking = i < 4 || i.saturating_add(160) < count;
+        calls.put(1, make_kind(random, marking));
+        calls.put(1, make_type(random, size.types));
+        calls.put(2, make_slot(random, size.slots));
     }
+    calls
 }
 
 // A kind: for the first four calls, and for a long list but for its last 160, mostly marks; else one of all, with three unknown ones.
-fn make_kind(seed: &mut u64, marking: bool) -> usize {
-    let drawn = below(seed, 32);
+fn make_kind(random: &mut Random, marking: bool) -> usize {
+    let drawn = random.below(32);
     if marking {
         return marking_kind(drawn);
     }
     match drawn {
-        0..=2 => 1,
-        3..=10 => 2,
-        11..=15 => 3,
-        16..=20 => 4,
-        21..=22 => 5,
-        23..=25 => 6,
-        26..=28 => 7,
+        0..=2 => ASSIGN,
+        3..=10 => REMOVE,
+        11..=15 => MARK,
+        16..=20 => BACK,
+        21..=22 => SHOW,
+        23..=25 => UPPER_WALLS,
+        26..=28 => LOWER_WALLS,
         29 => 0,
         30 => 8,
         _ => 200,
@@ -48,22 +59,22 @@ fn make_kind(seed: &mut u64, marking: bool) -> usize {
 
 fn marking_kind(drawn: usize) -> usize {
     match drawn {
-        0..=27 => 3,
-        28..=29 => 2,
-        _ => 6,
+        0..=27 => MARK,
+        28..=29 => REMOVE,
+        _ => UPPER_WALLS,
     }
 }
 
-fn make_type(seed: &mut u64, k: usize) -> usize {
-    if in_eight(seed, 1) {
-        return below(seed, 256);
+fn make_type(random: &mut Random, types: usize) -> usize {
+    if random.in_eight(1) {
+        return random.below(256);
     }
-    below(seed, k)
+    random.below(types)
 }
 
-fn make_slot(seed: &mut u64, n: usize) -> usize {
-    if in_eight(seed, 1) {
-        return below(seed, 600);
+fn make_slot(random: &mut Random, slots: usize) -> usize {
+    if random.in_eight(1) {
+        return random.below(600);
     }
-    below(seed, n)
+    random.below(slots)
 }

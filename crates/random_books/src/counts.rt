@@ -1,87 +1,176 @@
 // What a run counts, and where the engine and the plain filter first differ.
+use std::fmt;
 
-// Counts, at the places below.
-pub type Counts = [usize; 32];
+// What is counted.
+#[derive(Debug, Clone, Copy, PartialEq, Eq)]
+pub enum Counter {
+    Books,
+    ClosedDead,
+    SettledDead,
+    Live,
+    BoundsMoved,
+    SettledStruck,
+    Calls,
+    LiveDecisions,
+    DeadDecisions,
+    Struck,
+    MarksAndBacks,
+    Shown,
+    UpperWalls,
+    LowerWalls,
+    RefusedKind,
+    RefusedSlot,
+    RefusedType,
+    RefusedBack,
+    RefusedDead,
+    RefusedMark,
+    Differences,
+}
 
-pub const BOOKS: usize = 0;
+impl Counter {
+    // All of them, in the order of the report.
+    const ALL: [Counter; 21] = [
+        Counter::Books,
+        Counter::ClosedDead,
+        Counter::SettledDead,
+        Counter::Live,
+        Counter::BoundsMoved,
+        Counter::SettledStruck,
+        Counter::Calls,
+        Counter::LiveDecisions,
+        Counter::DeadDecisions,
+        Counter::Struck,
+        Counter::MarksAndBacks,
+        Counter::Shown,
+        Counter::UpperWalls,
+        Counter::LowerWalls,
+        Counter::RefusedKind,
+        Counter::RefusedSlot,
+        Counter::RefusedType,
+        Counter::RefusedBack,
+        Counter::RefusedDead,
+        Counter::RefusedMark,
+        Counter::Differences,
+    ];
+}
 
-pub const CLOSED_DEAD: usize = 1;
-
-pub const SETTLED_DEAD: usize = 2;
-
-pub const LIVE: usize = 3;
-
-pub const BOUNDS_MOVED: usize = 4;
-
-pub const SETTLED_STRUCK: usize = 5;
-
-pub const CALLS: usize = 6;
-
-pub const LIVE_DECISIONS: usize = 7;
-
-pub const DEAD_DECISIONS: usize = 8;
-
-pub const STRUCK: usize = 9;
-
-pub const MARKS_AND_BACKS: usize = 10;
-
-pub const SHOWN: usize = 11;
-
-pub const UPPER_WALLS: usize = 12;
-
-pub const LOWER_WALLS: usize = 13;
-// The calls refused by number 11 are at REFUSED, the others follow.
-pub const REFUSED: usize = 14;
-
-pub const DIFFERENCES: usize = 20;
-// Where the first difference is: the book, the step and the place in what the step compares.
-pub const FIRST_BOOK: usize = 21;
-
-pub const FIRST_STEP: usize = 22;
-
-pub const FIRST_PLACE: usize = 23;
-
-pub fn count(counts: &Counts, which: usize) -> usize {
-    if which < 32 {
-        return counts[which];
+impl fmt::Display for Counter {
+    fn fmt<W: fmt::Write>(&self, f: &mut fmt::Formatter<W>) -> fmt::Result {
+        f.write_str(match self {
+            Counter::Books => "books",
+            Counter::ClosedDead => "closed dead",
+            Counter::SettledDead => "settled dead",
+            Counter::Live => "live",
+            Counter::BoundsMoved => "bounds moved",
+            Counter::SettledStruck => "settling struck",
+            Counter::Calls => "calls",
+            Counter::LiveDecisions => "live decisions",
+            Counter::DeadDecisions => "dead decisions",
+            Counter::Struck => "struck",
+            Counter::MarksAndBacks => "marks and backs",
+            Counter::Shown => "shown above 0",
+            Counter::UpperWalls => "upper walls above 0",
+            Counter::LowerWalls => "lower walls above 0",
+            Counter::RefusedKind => "refused 11",
+            Counter::RefusedSlot => "refused 12",
+            Counter::RefusedType => "refused 13",
+            Counter::RefusedBack => "refused 14",
+            Counter::RefusedDead => "refused 15",
+            Counter::RefusedMark => "refused 16",
+            Counter::Differences => "differences",
+        })
     }
-    0
 }
 
-fn set(counts: &mut Counts, which: usize, x: usize) {
-    if which < 32 {
-        counts[which] = x;
-    }
+// A step of a book whose results are compared.
+#[derive(Debug, Clone, Copy, PartialEq, Eq)]
+pub enum Step {
+    Check = 1,
+    Closing = 2,
+    Settling = 3,
+    Calls = 4,
+    LastMasks = 5,
 }
 
-pub fn add(counts: &mut Counts, which: usize, x: usize) {
-    let sum = arrays::plus(count(counts, which), x);
-    set(counts, which, sum);
-}
-
-// Adds 1 where x is above 0.
-pub fn add_if(counts: &mut Counts, which: usize, x: u32) {
-    if 0 < x {
-        add(counts, which, 1);
-    }
-}
-
-// The step of a book whose results are compared.
-#[derive(Clone, Copy)]
-pub struct Step {
+// Where the engine and the plain filter differ: the book, the step and the place in what the step compares.
+#[derive(Debug, Clone, Copy, PartialEq, Eq)]
+pub struct Difference {
     pub book: usize,
-    pub step: usize,
+    pub step: Step,
+    pub place: usize,
 }
 
-// Counts a difference where the engine's x is not the plain filter's y.
-pub fn same(counts: &mut Counts, step: Step, place: usize, x: usize, y: usize) {
-    if x == y {
-        return;
+// The counts of a run, and the first difference.
+#[derive(Clone, Copy)]
+pub struct Counts {
+    counts: [usize; 21],
+    first: Option<Difference>,
+}
+
+impl Counts {
+    pub fn new() -> Counts {
+        Counts {
+            counts: [0; 21],
+            first: None,
+        }
     }
-    if count(counts, DIFFERENCES) == 0 {
-        set(counts, FIRST_BOOK, step.book);
-        set(counts, FIRST_STEP, step.step);
-        set(counts, FIRST_PLACE, place);
+
+    fn count(&self, counter: Counter) -> usize {
+        self.counts[counter as usize]
     }
-    add(counts, DIFFERENCES, 1);
+
+    pub fn add(&mut self, counter: Counter, x: usize) {
+        self.counts[counter as usize] = self.count(counter).saturating_add(x);
+    }
+
+    // Adds 1 where x is above 0.
+    pub fn add_if(&mut self, counter: Counter, x: u32) {
+        if 0 < x {
+            self.add(counter, 1);
+        }
+    }
+
+    // Counts a difference.
+    pub fn differ(&mut self, difference: Difference) {
+        if self.first.is_none() {
+            self.first = Some(difference);
+        }
+        self.add(Counter::Differences, 1);
+    }
+}
+
+// All counts, one to a line, and the first difference if there is one.
+impl fmt::Display for Counts {
+    fn fmt<W: fmt::Write>(&self, f: &mut fmt::Formatter<W>) -> fmt::Result {
+        for counter in Counter::ALL {
+            let count = self.count(counter);
+            writeln!(f, "{counter} {count}")?;
+        }
+        if let Some(first) = self.first {
+            writeln!(f, "first in book {}", first.book)?;
+            writeln!(f, "step {}", first.step as u8)?;
+            writeln!(f, "place {}", first.place)?;
+        }
+        Ok(())
+    }
+}
+
+#[cfg(test)]
+mod tests {
+    use super::*;
+    use crate::found::Comparison;
+    use std::test::Fail;
+
+    // The first of two differences is told after all counts.
+    #[test]
+    fn first_difference(rt: HostRuntime) -> Result<(), Fail> {
+        let mut counts = Counts::new();
+        Comparison::new(7, Step::Calls, &mut counts).same(12, 1, 2);
+        Comparison::new(8, Step::Closing, &mut counts).same(3, 0, 5);
+        let text = format!(in rt.alloc(); "{counts}")?;
+        let told = "refused 16 0\ndifferences 2\nfirst in book 7\nstep 4\nplace 12\n";
+        assert!(rt; text.as_str().starts_with("books 0\nclosed dead 0\n"));
+        assert!(rt; text.as_str().ends_with(told));
+        Ok(())
+    }
 }

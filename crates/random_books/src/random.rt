@@ -1,21 +1,34 @@
 // Random numbers: the same seed gives the same numbers.
 
-// A number from 0 to limit - 1; 0 where limit is 0.
-pub fn below(seed: &mut u64, limit: usize) -> usize {
-    let next = shifted(*seed);
-    *seed = next;
-    if limit == 0 {
-        return 0;
+// The xorshift generator of 64 bits with the shifts 13, 7, 17.
+#[derive(Clone, Copy)]
+pub struct Random {
+    // not 0 where the seed is not
+    state: u64,
+}
+
+impl Random {
+    pub fn new(seed: u64) -> Random {
+        Random { state: seed }
     }
-    ((next >> 16) % (limit as u64)) as usize
+
+    // A number from 0 to limit - 1; 0 where limit is 0.
+    pub fn below(&mut self, limit: usize) -> usize {
+        let next = shifted(self.state);
+        self.state = next;
+        if limit == 0 {
+            return 0;
+        }
+        ((next >> 16) % (limit as u64)) as usize
+    }
+
+    // Whether one case of so many of eight came up.
+    pub fn in_eight(&mut self, cases: usize) -> bool {
+        self.below(8) < cases
+    }
 }
 
-// Whether one case of so many of eight came up.
-pub fn in_eight(seed: &mut u64, cases: usize) -> bool {
-    below(seed, 8) < cases
-}
-
-// The next state of the xorshift generator of 64 bits with the shifts 13, 7, 17; not 0 where x is not.
+// The next state.
 fn shifted(x: u64) -> u64 {
     let y = x ^ (x << 13);
     let z = y ^ (y >> 7);

@@ -9,42 +9,35 @@
 
 mod compare; // compare.rt: the engine against the plain filter, step by step
 
-use compare::{compare_check, compare_closing, compare_session, compare_settling};
-use random_books::{
-    Counts, call_count, front, make_book, make_calls, report, tell_book, write_book,
-};
+use compare::Trial;
+use random_books::{Counter, Counts, Random, make_book, make_calls};
 use std::io;
 
 // The books of a run.
 const BOOKS: usize = 2000;
 
 fn main(rt: HostRuntime) -> io::Result<()> {
-    let mut counts = [0usize; 32];
-    let mut seed = 2026u64;
+    let mut counts = Counts::new();
+    let mut random = Random::new(2026);
     for number in 0..BOOKS {
-        try_book(&mut seed, number, &mut counts);
+        try_book(&mut random, number, &mut counts);
     }
-    report(&mut io::writer(&rt), &counts)
+    print!(rt; "{counts}")
 }
 
 // Makes a book and a call list, and compares what the engine and the plain filter make of them.
-fn try_book(seed: &mut u64, number: usize, counts: &mut Counts) {
-    let mut masks = [0u32; 32];
-    let mut rows = [0usize; 256];
-    let case = make_book(seed, number, &mut masks, &mut rows);
-    let mut bytes = [0u8; 2048];
-    let end = write_book(case, &masks, &rows, &mut bytes);
-    let mut calls = [0u8; 2048];
-    make_calls(seed, number, case.n, case.k, &mut calls);
-    let count = call_count(number);
-    let book = front(&bytes, end);
-    let mut lower = [0usize; 256];
-    let mut upper = [0usize; 256];
-    compare_check(number, book, counts);
-    let closed = compare_closing(case, book, &rows, &mut lower, &mut upper, counts);
-    let settled = compare_settling(case, book, closed, &lower, &upper, &mut masks, counts);
-    tell_book(closed, settled, counts);
-    compare_session(
-        case, book, settled, &calls, count, &lower, &upper, &mut masks, counts,
-    );
+fn try_book(random: &mut Random, number: usize, counts: &mut Counts) {
+    let made = make_book(random, number);
+    let calls = make_calls(random, number, made.size);
+    let bytes = made.bytes();
+    counts.add(Counter::Books, 1);
+    let mut trial = Trial {
+        made: &made,
+        book: bytes.as_slice(),
+        counts,
+    };
+    trial.check();
+    let closed = trial.close();
+    let opened = trial.settle(closed);
+    trial.run(opened, calls.as_slice());
 }

@@ -11,10 +11,7 @@ ghost use Rattle.segments_model.specs.Search.{Latest};
 pub fn hop(c: usize) -> usize
     ensures { result ≡ c - 1023 }
 {
-    if c < 1024 {
-        return 0usize;
-    }
-    c - 1023
+    c.saturating_sub(1023)
 }
 
 // The last right end after z up to the slot, or z.
@@ -22,14 +19,12 @@ pub fn latest_standing(cells: &[u16], z: usize, slot: usize) -> usize
     requires { (z ≤ slot) × (slot < length cells.now) }
     ensures { Latest z slot (gaps cells.now) result }
 {
-    let mut p = slot;
-    while z < p {
+    for p in (z + 1..slot + 1).rev() {
         if cells[p] < 1024 {
             return p;
         }
-        p -= 1;
     }
-    p
+    z
 }
 
 // The leftmost segment, whose right end t has no slack left, is spent.
@@ -48,11 +43,4 @@ pub fn join(cells: &mut [u16], p: usize, t: usize)
 {
     cells[t] = cells[p];
     cells[p] = (1023 + (t - p)) as u16;
-}
-
-// The same number as an index.
-pub fn wide(x: u16) -> usize
-    ensures { (result ≡ x) × (result < 65536) }
-{
-    x as usize
 }

@@ -9,6 +9,7 @@ ghost use Rattle.book.specs.Layout.{list_of};
 ghost use Rattle.rises.specs.Rises.{over_rises, Holds, Marks};
 
 use domains::with;
+use filling::fill;
 
 // Writes the rises of a table of k values and the prefix lengths 0 to n into the front of rises.
 pub fn write_rises(table: &[u16], n: usize, k: usize, rises: &mut [u32])
@@ -26,9 +27,7 @@ fn clear(rises: &mut [u32], n: usize)
     requires { n < length rises.old }
     ensures { rises.new ≡ list_of (n + 1) (λ t. 0) ++ drop (n + 1) rises.old }
 {
-    for t in 0..n + 1 {
-        rises[t] = 0;
-    }
+    fill(&mut rises[..n + 1], 0);
 }
 
 // Puts value v into the masks where it rises, beside the values below it.

@@ -51,21 +51,21 @@ pub fn open_session(
     let outcome = open_book(book, masks, cells, trail, lowers, uppers);
     match outcome {
         Outcome::Live(h) => {
-            return Session {
+            Session {
                 standing: Standing::Live,
                 top: h,
                 marks: 0,
                 idle,
-            };
+            }
         }
         Outcome::Dead(_) => {
             clear_masks(masks);
-            return Session {
+            Session {
                 standing: Standing::OpenedDead,
                 top: 0,
                 marks: 0,
                 idle,
-            };
+            }
         }
     }
 }

@@ -9,7 +9,7 @@ ghost use Rattle.segments_model.specs.Part.{Lent};
 ghost use Rattle.segments.specs.UsedUp.{UsedUp};
 ghost use Rattle.segments.specs.Fell.{Fell};
 
-use right_ends::{hop, join, latest_standing, spend, wide};
+use right_ends::{hop, join, latest_standing, spend};
 
 // What a fall of the slack meets. No corner loses its last slack: the gap of the right end t fell by one, no right end is after the slot, or the
 // right end p was joined. A corner has none to lose. Or t is the last corner that loses its last slack, and the spent corner was z.
@@ -27,21 +27,22 @@ pub fn fall(cells: &mut [u16], n: usize, slot: usize) -> Hit
     requires { (slot < n) × (n < length cells.old) × (n < 1024) }
     ensures { Fell n slot cells.old cells.new result }
 {
-    let z = wide(cells[0]);
+    let z = cells[0] as usize;
     if slot < z {
         return Hit::Clash;
     }
-    let mut t = slot + 1 + hop(wide(cells[slot + 1]));
+    let mut t = slot + 1 + hop(cells[slot + 1] as usize);
     if n < t {
         return Hit::Still;
     }
-    let mut d = wide(cells[t]);
+    let mut d = cells[t] as usize;
+    // a `while`: t follows the links, by no fixed step
     while 1024 <= d {
         t = t + (d - 1023);
         if n < t {
             return Hit::Still;
         }
-        d = wide(cells[t]);
+        d = cells[t] as usize;
     }
     if 0 < d {
         cells[t] = (d - 1) as u16;
@@ -57,8 +58,9 @@ fn use_up(cells: &mut [u16], n: usize, z: usize, slot: usize, t: usize) -> Hit
     ensures { UsedUp n z slot t cells.old cells.new result }
 {
     let mut e = z + 1;
+    // a `while`: e follows the links, by no fixed step
     while e <= slot {
-        let c = wide(cells[e]);
+        let c = cells[e] as usize;
         if c < 1024 {
             let p = latest_standing(cells, e, slot);
             join(cells, p, t);

@@ -1,33 +1,24 @@
--- The laws of `SessionReady` and `Exactly` of session_fault's `specs/Entry.antt` that speak of a book's run: `ready_runnable` (arrays with room for every
--- book), `exactly_live` and `exactly_dead` (the outcome of a good book). No contract cites this file. Assumes nothing.
+-- The laws of `Exactly` of session_fault's `specs/Entry.antt` that speak of a book's run: `exactly_live` and `exactly_dead` (the outcome of a good
+-- book). No contract cites this file. Assumes nothing.
 use mathlib.Core.Path.{◌≡◌, refl, sym, ◌∙◌}
 use mathlib.Core.Bool.{true, false, true≢false}
 use mathlib.Core.List.{List}
 use mathlib.Core.Option.{Option, none, some}
-use Prim.Native.Nat.{ℕ, ◌≤◌, ◌<◌}
-use lib.ListN.{length}
-use Rattle.answer.specs.declared.Answer.{Answer}
-use Rattle.answer.specs.declared.Answer.TheVariants.{Live, Dead}
+use Prim.Native.Nat.{ℕ}
+use Rattle.std.specs.Prelude.{Ok}
+use Rattle.answer.specs.declared.Verdict.{Verdict}
+use Rattle.answer.specs.declared.Verdict.TheVariants.{Live, Dead}
 use Rattle.answer.specs.Answer.{word_of}
 use Rattle.settling_model.specs.Book.{settled_book}
-use Rattle.book_opening.proofs.OpenLaws.{state_room}
-use Rattle.running_model.specs.BookRan.{opens_live, BookRunnable, BookRan}
+use Rattle.running_model.specs.BookRan.{opens_live, BookRan}
 use Rattle.running_model.specs.declared.Ended.{Ended}
-use Rattle.session_fault.specs.Entry.{most_marks, opened_word, SessionReady, Exactly}
-
--- ---- SessionReady
-pub ready_runnable : {b calls A M : List ℕ} (cells trail L U : List ℕ) → SessionReady b calls A M → 16528 ≤ length cells → 25088 ≤ length trail
-    → 257 ≤ length L → 257 ≤ length U → length trail < 65536 → BookRunnable b calls A M cells trail L U
-ready_runnable cells trail L U session cells_in trail_in lowers_in uppers_in fits =
-    record {
-      openable = record { state = state_room cells trail L U session.ready cells_in trail_in lowers_in uppers_in; heights_fit = fits };
-      room = session.room;
-    }
+use Rattle.session_fault.specs.Entry.{most_marks, opened_word, Exactly}
 
 -- ---- Exactly
 module _ {b calls A A' M c t h : List ℕ} {r : Ended} (ran : BookRan b calls most_marks A A' M c t h r) where
-  answered : (settled : Option (List ℕ)) (answer : Answer) → (opens_live settled ≡ true → word_of answer ≡ 0) → (opens_live settled ≡ false → word_of answer ≡ 1)
-      → word_of answer ≡ opened_word settled
+  answered : (settled : Option (List ℕ)) (answer : Verdict) → (opens_live settled ≡ true → word_of (Ok answer) ≡ 0)
+      → (opens_live settled ≡ false → word_of (Ok answer) ≡ 1)
+      → word_of (Ok answer) ≡ opened_word settled
   answered none answer when_live_lem when_dead = when_dead refl
   answered (some N) answer when_live_lem when_dead = when_live_lem refl
 

@@ -8,14 +8,16 @@ use Prim.Native.Nat.{ℕ, zero, suc, ◌+◌, ◌*◌, ◌/◌, ◌%◌, ◌≤�
 use borrow.Author.Tests.{eq-eqb, ne_eqb, lt-ltb, le-ltb, ltb-false}
 use lib.Dec.{eqb, ltb, lit<}
 use lib.ListN.{length}
-use Rattle.answer.specs.declared.Answer.{Answer}
-use Rattle.answer.specs.Answer.{word_of}
+use Rattle.std.specs.Prelude.{Err, Ok}
+use Rattle.answer.specs.declared.Refusal.{Refusal}
+use Rattle.answer.specs.declared.Verdict.{Verdict}
+use Rattle.answer.specs.Answer.{number_of, word_of}
 use Rattle.book.specs.declared.Limits.{Limits}
 use Rattle.book.specs.Layout.{slots}
 use Rattle.book.specs.Refusal.{fault, refusal}
 use Rattle.book.specs.GoodFacts.{GoodFacts}
 use Rattle.book.proofs.BookLaws.{good_facts}
-use Rattle.book.proofs.RefusalLaws.{fault_none, or_else_none, or_else_some, none_of_or_else}
+use Rattle.book.proofs.RefusalLaws.{fault_none, or_else_none, or_else_some, none_of_or_else, some_number}
 use Rattle.closing.specs.Close.{overlay}
 use Rattle.settling_model.specs.Book.{settled_book}
 use Rattle.settle_fault.specs.Ready.{Capacity}
@@ -23,7 +25,8 @@ use Rattle.settle_fault.proofs.SettleLaws.{fit_of}
 use Rattle.session_model.specs.BookRun.{state_after, replies_of}
 use Rattle.session_model.specs.Calls.{calls_of}
 use Rattle.session_model.specs.State.{words_of}
-use Rattle.session_fault.specs.Entry.{bad_calls, most_marks, session_fault, Outcome, refused, opened_word, session_good, unless, session_of, SessionRan, SessionReady}
+use Rattle.session_fault.specs.Entry.{bad_calls, most_marks, session_fault, Outcome, refused, opened_word, session_good, unless, session_of}
+use Rattle.session_fault.specs.Entry.{SessionRan, SessionReady}
 
 -- ---- session_fault
 pub or_first : (a b : Bool) → a ≡ true → a || b ≡ true
@@ -49,6 +52,9 @@ module _ (limits : Limits) (b : List ℕ) (bytes words_room masks_room : ℕ) wh
   pub session_fault_book : (refusal limits b ≡ 0 → ⊥) → session_fault limits b bytes words_room masks_room ≡ refusal limits b
   unfolding session_fault
   session_fault_book refusing = or_else_some (refusal limits b) _ refusing
+
+  pub session_fault_refuses : (e : Refusal) → number_of e ≡ refusal limits b → number_of e ≡ session_fault limits b bytes words_room masks_room
+  session_fault_refuses e refuses = refuses ∙ sym (session_fault_book (λ none. some_number e (refuses ∙ none)))
 
   module _ (accepted : refusal limits b ≡ 0) where
     -- then 10
@@ -118,7 +124,8 @@ module _ (limits : Limits) (b calls : List ℕ) (words_room masks_room : ℕ) wh
   unfolding session_of
   session_of_refused x is_fault refusing = rw (sym is_fault) (unless_some x (session_good b (calls_of calls)) refusing)
 
-  pub session_of_good : session_fault limits b (length calls) words_room masks_room ≡ 0 → session_of limits b calls words_room masks_room ≡ session_good b (calls_of calls)
+  pub session_of_good : session_fault limits b (length calls) words_room masks_room ≡ 0
+      → session_of limits b calls words_room masks_room ≡ session_good b (calls_of calls)
   unfolding session_of
   session_of_good unrefused = rw unrefused refl
 
@@ -128,10 +135,17 @@ pub session_refused : (stored : List ℕ → List ℕ) {o : Outcome} (x : ℕ) (
     → SessionRan stored o (256 + x) A M A M
 session_refused stored x A M empty is = rw is (record { answers = refl; words = rw empty refl; masks = rw empty refl })
 
+pub session_err : (stored : List ℕ → List ℕ) (limits : Limits) (b calls : List ℕ) (words_room masks_room : ℕ) (e : Refusal) (A M : List ℕ)
+    → stored [] ≡ [] → number_of e ≡ session_fault limits b (length calls) words_room masks_room
+    → SessionRan stored (session_of limits b calls words_room masks_room) (word_of (Err e)) A M A M
+session_err stored limits b calls words_room masks_room e A M empty refuses =
+    session_refused stored (number_of e) A M empty
+    (session_of_refused limits b calls words_room masks_room (number_of e) refuses (some_number e))
+
 -- else the words W and the masks F of the machine are written
-pub session_ran : (stored : List ℕ → List ℕ) (b calls : List ℕ) (r : Answer) {A M W F A' M' : List ℕ} → word_of r ≡ opened_word (settled_book b)
+pub session_ran : (stored : List ℕ → List ℕ) (b calls : List ℕ) (r : Verdict) {A M W F A' M' : List ℕ} → word_of (Ok r) ≡ opened_word (settled_book b)
     → W ≡ words_of (replies_of b most_marks (calls_of calls)) → F ≡ (state_after b most_marks (calls_of calls)).masks → A' ≡ overlay (stored W) A
-    → M' ≡ overlay (stored F) M → SessionRan stored (session_good b (calls_of calls)) (word_of r) A M A' M'
+    → M' ≡ overlay (stored F) M → SessionRan stored (session_good b (calls_of calls)) (word_of (Ok r)) A M A' M'
 unfolding session_good
 session_ran stored b calls r {A} {M} answer words_are masks_are words masks =
     record {

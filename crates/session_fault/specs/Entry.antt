@@ -11,9 +11,9 @@
 --   SessionRan             the answer and both outputs are those of an outcome
 --   SessionReady, Exactly  what the function below the entry rests on and promises
 -- Assumes nothing.
-use Rattle.std.specs.Prelude.{◌≡◌, Bool, not, ◌||◌, List, [], ℕ, zero, suc, ◌+◌, ◌*◌, ◌/◌, ◌%◌, ◌≤◌, eqb, ltb, length}
+use Rattle.std.specs.Prelude.{◌≡◌, Bool, not, ◌||◌, List, [], ℕ, zero, suc, ◌+◌, ◌*◌, ◌/◌, ◌%◌, ◌≤◌, eqb, ltb, length, Ok}
 use Rattle.std.proofs.Math.Option.{Option, none, some}
-use Rattle.answer.specs.declared.Answer.{Answer}
+use Rattle.answer.specs.declared.Verdict.{Verdict}
 use Rattle.answer.specs.Answer.{word_of}
 use Rattle.book.specs.declared.Limits.{Limits}
 use Rattle.book.specs.Layout.{slots}
@@ -79,7 +79,7 @@ pub record SessionReady (b calls answers masks : List ℕ) : Type 0 where
   pub room : 2 * (length calls / 4) ≤ length answers
 
 -- the masks are just those of the slots
-pub record Exactly (b calls : List ℕ) (r : Answer) (A A' M' : List ℕ) : Type 0 where
-  pub answer : word_of r ≡ opened_word (settled_book b)
+pub record Exactly (b calls : List ℕ) (r : Verdict) (A A' M' : List ℕ) : Type 0 where
+  pub answer : word_of (Ok r) ≡ opened_word (settled_book b)
   pub words : A' ≡ overlay (words_of (replies_of b most_marks (calls_of calls))) A
   pub masks : M' ≡ (state_after b most_marks (calls_of calls)).masks

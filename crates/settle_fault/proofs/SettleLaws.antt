@@ -1,5 +1,6 @@
 -- The laws of `specs/Settle.antt` and `specs/Ready.antt`, in their order. No contract cites this file. The ones that matter most:
--- `settle_fault_good` (what no refusal gives), `settle_of_refused` and `settle_of_good` (the outcome by cases), `wrote-settled` (the outcome of a good book).
+-- `settle_fault_good` (what no refusal gives), `settle_of_refused` and `settle_of_good` (the outcome by cases), `wrote_live` and `wrote_dead` (the outcome
+-- of a good book).
 -- Assumes nothing.
 use mathlib.Core.Path.{◌≡◌, refl, sym, ap, ◌∙◌}
 use mathlib.Core.Bool.{Bool, true, false}
@@ -10,14 +11,16 @@ use native.Mathlib.Omega.{arith}
 use lib.Dec.{lit<}
 use lib.ListN.{length, replicate}
 use borrow.Author.Tests.{lt-ltb, le-ltb, ltb-false}
-use Rattle.answer.specs.declared.Answer.{Answer}
-use Rattle.answer.specs.declared.Answer.TheVariants.{Live, Dead}
-use Rattle.answer.specs.Answer.{word_of}
+use Rattle.std.specs.Prelude.{Ok, Err}
+use Rattle.answer.specs.declared.Refusal.{Refusal}
+use Rattle.answer.specs.declared.Verdict.{Verdict}
+use Rattle.answer.specs.declared.Verdict.TheVariants.{Live, Dead}
+use Rattle.answer.specs.Answer.{number_of, word_of}
 use Rattle.book.specs.declared.Limits.{Limits}
 use Rattle.book.specs.Layout.{slots}
 use Rattle.book.specs.Refusal.{refusal}
 use Rattle.book.specs.GoodFacts.{GoodFacts}
-use Rattle.book.proofs.RefusalLaws.{fault_none, or_else_none, or_else_some, none_of_or_else}
+use Rattle.book.proofs.RefusalLaws.{fault_none, or_else_none, or_else_some, none_of_or_else, some_number}
 use Rattle.book.proofs.BookLaws.{good_facts}
 use Rattle.closing.specs.Close.{Outcome, refused, overlay}
 use Rattle.closing.proofs.CloseLaws.{unless_some}
@@ -32,6 +35,9 @@ module _ (limits : Limits) (b : List ℕ) (room : ℕ) where
   pub settle_fault_book : (refusal limits b ≡ 0 → ⊥) → settle_fault limits b room ≡ refusal limits b
   unfolding settle_fault
   settle_fault_book refusing = or_else_some (refusal limits b) _ refusing
+
+  pub settle_fault_refuses : (e : Refusal) → number_of e ≡ refusal limits b → number_of e ≡ settle_fault limits b room
+  settle_fault_refuses e refuses = refuses ∙ sym (settle_fault_book (λ none. some_number e (refuses ∙ none)))
 
   pub settle_fault_short : refusal limits b ≡ 0 → room < slots b → settle_fault limits b room ≡ 9
   unfolding settle_fault
@@ -67,9 +73,14 @@ module _ (limits : Limits) (b : List ℕ) (room : ℕ) where
 pub settles_refused : (stored : List ℕ → List ℕ) {o : Outcome} (x : ℕ) (M : List ℕ) → stored [] ≡ [] → o ≡ refused x → Settles stored o (256 + x) M M
 settles_refused stored x M empty is_refused = rw is_refused (record { answers = refl; masks = rw empty })
 
+pub settles_err : (stored : List ℕ → List ℕ) (limits : Limits) (b : List ℕ) (room : ℕ) (e : Refusal) (M : List ℕ) → stored [] ≡ []
+    → number_of e ≡ settle_fault limits b room → Settles stored (settle_of limits b room) (word_of (Err e)) M M
+settles_err stored limits b room e M empty refuses =
+    settles_refused stored (number_of e) M empty (settle_of_refused limits b room (number_of e) refuses (some_number e))
+
 -- live or dead: the masks of the outcome are written
-pub settles_wrote : (stored : List ℕ → List ℕ) (o : Outcome) (r : Answer) {M F M' : List ℕ} → Wrote o r F → M' ≡ overlay (stored F) M
-    → Settles stored o (word_of r) M M'
+pub settles_wrote : (stored : List ℕ → List ℕ) (o : Outcome) (r : Verdict) {M F M' : List ℕ} → Wrote o r F → M' ≡ overlay (stored F) M
+    → Settles stored o (word_of (Ok r)) M M'
 settles_wrote stored o r {M} wrote masks =
     record { answers = wrote.answer; masks = masks ∙ ap (λ (xs : List ℕ). overlay (stored xs) M) wrote.masks }
 

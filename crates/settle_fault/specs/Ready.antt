@@ -5,9 +5,9 @@
 --   Wrote o r M         the answer r and the masks M are those of the outcome o
 --   settled_by r M       the model's answer that r and the masks M stand for: the settled masks, or none (document 01: dead)
 -- Assumes nothing.
-use Rattle.std.specs.Prelude.{◌≡◌, Bool, true, false, List, ℕ, ◌+◌, ◌*◌, ◌≤◌, ◌<◌, length}
+use Rattle.std.specs.Prelude.{◌≡◌, Bool, true, false, List, ℕ, ◌+◌, ◌*◌, ◌≤◌, ◌<◌, length, Ok}
 use Rattle.std.proofs.Math.Option.{Option, none, some}
-use Rattle.answer.specs.declared.Answer.{Answer}
+use Rattle.answer.specs.declared.Verdict.{Verdict}
 use Rattle.answer.specs.Answer.{word_of}
 use Rattle.book.specs.declared.Limits.{Limits}
 use Rattle.book.specs.Layout.{slots, values, idle, row_count, mask_at, rows_part, row_at}
@@ -31,8 +31,8 @@ pub record Ready (b M : List ℕ) : Type 0 where
   pub book : FitBook b
   pub masks : length M ≡ slots b
 
-pub record Wrote (o : Outcome) (r : Answer) (M : List ℕ) : Type 0 where
-  pub answer : word_of r ≡ answer_of o
+pub record Wrote (o : Outcome) (r : Verdict) (M : List ℕ) : Type 0 where
+  pub answer : word_of (Ok r) ≡ answer_of o
   pub masks : M ≡ masks_of o
 
 abbrev pub settled_by : Bool → List ℕ → Option (List ℕ)

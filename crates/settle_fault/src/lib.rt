@@ -1,23 +1,22 @@
-// The number that refuses a book, or the output lent with it: the book's own, 1 to 8, then 9 where the output is too short for its masks.
+// What refuses a book, or the output lent with it: the book's own refusal, 1 to 8, then 9 where the output is too short for its masks.
 // The contract cites `specs/Settle.antt`, what settle answers and writes. `specs/Ready.antt` is what the functions below that entry rest on.
 #![tactic(auto)]
 
 ghost use Rattle.std.specs.Prelude.{◌≡◌};
+ghost use Rattle.book.specs.Refusal.{number_of};
 ghost use Rattle.settle_fault.specs.Settle.{settle_fault};
 
-use book::{Limits, number, slots};
+use answer::Refusal;
+use book::{Limits, slots};
 use reader::read;
 
-// The number that refuses book, or an output with room for so many masks; 0 where none does.
-pub fn fault(book: &[u8], limits: Limits, room: usize) -> u8
-    ensures { result ≡ settle_fault limits book.now room }
+// What refuses book, or an output with room for so many masks.
+pub fn check(book: &[u8], limits: Limits, room: usize) -> Result<(), Refusal>
+    ensures { number_of result ≡ settle_fault limits book.now room }
 {
-    let refusal = number(read(book, limits));
-    if refusal != 0 {
-        return refusal as u8;
-    }
+    read(book, limits)?;
     if room < slots(book) {
-        return 9;
+        return Err(Refusal::OutputTooShort);
     }
-    0
+    Ok(())
 }

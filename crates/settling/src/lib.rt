@@ -10,37 +10,34 @@ ghost use Rattle.settling_model.specs.Book.{settled_book};
 ghost use Rattle.settle_fault.specs.Settle.{Settles, settle_good, settle_of};
 ghost use Rattle.settle_fault.specs.Ready.{Capacity, Ready, Wrote, settled_by};
 
-use answer::Answer;
+use answer::{Refusal, Verdict};
 use book::{Limits, slots};
 use book_masks::clear_masks;
-use book_opening::open_book;
+use book_opening::{CELLS, PREFIXES, TRAIL, open_book};
 use outcomes::Outcome;
-use settle_fault::fault;
+use settle_fault::check;
 
 // Settles the masks of book into the front of masks.
-pub fn settle(book: &[u8], limits: Limits, masks: &mut [u32]) -> Answer
+pub fn settle(book: &[u8], limits: Limits, masks: &mut [u32]) -> Result<Verdict, Refusal>
     requires { Capacity limits }
     ensures { Settles (λ xs. xs) (settle_of limits book.now (length masks.old)) (word_of result)
         masks.old masks.new }
 {
-    let number = fault(book, limits, masks.len());
-    if number != 0 {
-        return Answer::Refused(number);
-    }
+    check(book, limits, masks.len())?;
     let n = slots(book);
-    settle_exactly(book, &mut masks[..n])
+    Ok(settle_exactly(book, &mut masks[..n]))
 }
 
 // Settles the masks of a good book in a slice that has just the room for them.
-pub fn settle_exactly(book: &[u8], masks: &mut [u32]) -> Answer
+pub fn settle_exactly(book: &[u8], masks: &mut [u32]) -> Verdict
     requires { Ready book.now masks.old }
     ensures { Wrote (settle_good book.now) result masks.new }
 {
     if settles(book, masks) {
-        return Answer::Live;
+        return Verdict::Live;
     }
     clear_masks(masks);
-    Answer::Dead
+    Verdict::Dead
 }
 
 // Whether a good book settles; if so, masks holds what its masks settle to. The arrays have room for 256 slots and 32 values.
@@ -48,10 +45,10 @@ fn settles(book: &[u8], masks: &mut [u32]) -> bool
     requires { Ready book.now masks.old }
     ensures { settled_book book.now ≡ settled_by result masks.new }
 {
-    let mut cells = [0u16; 16528];
-    let mut trail = [0u8; 25088];
-    let mut lower_rises = [0u32; 257];
-    let mut upper_rises = [0u32; 257];
+    let mut cells = [0u16; CELLS];
+    let mut trail = [0u8; TRAIL];
+    let mut lower_rises = [0u32; PREFIXES];
+    let mut upper_rises = [0u32; PREFIXES];
     let outcome = open_book(
         book,
         masks,

@@ -76,12 +76,10 @@ pub fn any_open(cells: &[u16], n: usize, k: u32, start: usize, end: usize) -> bo
     requires { (cells_size n k ≤ length cells.now) × (n ≤ 256) × (k ≤ 32) × (end ≤ n) }
     ensures { result ≡ false → (s : ℕ) → start ≤ s → s < end → open_bit n k cells.now s ≡ 0 }
 {
-    let mut b = start / 32;
-    while b < (end + 31) / 32 {
+    for b in start / 32..(end + 31) / 32 {
         if word(cells, n, k, b) != 0 {
             return true;
         }
-        b += 1;
     }
     false
 }
@@ -93,7 +91,7 @@ fn word(cells: &[u16], n: usize, k: u32, b: usize) -> u32
         × (get_or cells.now (words_at n k + 2 * b) 0 < 65536) }
 {
     let at = (k + k) as usize * (n + 2) + 2 * b;
-    bits_of(cells[at]) + 65536 * bits_of(cells[at + 1])
+    cells[at] as u32 + 65536 * cells[at + 1] as u32
 }
 
 // The bits of a word from `start` on, where bit 0 stands for `base`.
@@ -118,10 +116,4 @@ fn bits_before(x: u32, base: usize, end: usize) -> u32
     }
     let e = (end - base) as u32;
     x % domains::only(e)
-}
-
-fn bits_of(x: u16) -> u32
-    ensures { (result ≡ x) × (result < 65536) }
-{
-    x as u32
 }

@@ -13,10 +13,8 @@ pub fn standing(cells: &[u16], n: usize) -> usize
     ensures { result ≡ standing_in (gaps cells.now) n }
 {
     let mut count: usize = 0;
-    let mut t: usize = 0;
-    while t < n {
-        t += 1;
-        if cells[t] < 1024 {
+    for t in 0..n {
+        if cells[t + 1] < 1024 {
             count += 1;
         }
     }

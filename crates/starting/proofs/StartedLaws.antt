@@ -7,7 +7,7 @@ use mathlib.Core.List.{List, [], ◌∷◌, ◌++◌}
 use Prim.Native.Nat.{ℕ, ◌+◌, ◌*◌, ◌%◌, ◌≤◌, ◌<◌}
 use native.Mathlib.Numerals.{add-one}
 use native.Mathlib.Omega.{arith}
-use lib.ListN.{length, replicate, length-drop}
+use lib.ListN.{length, replicate}
 use Rattle.book.specs.declared.Row.{Row}
 use Rattle.book.specs.Layout.{slots, values, row_count, rows_part, row_at, list_of}
 use Rattle.book.specs.GoodFacts.{RowFacts}
@@ -33,7 +33,8 @@ module _ (n k : ℕ) (row : ℕ → Row) where
     rows_more = ap (λ (j : ℕ). list_of j row) (add-one i)
 
     -- row i applied at its place
-    pub started_more : (r : Row) {L U L' U' : List ℕ} → r ≡ row i → RowFacts n k r → Started n k row i L U → L' ≡ raised L (place n r.value r.end) r.lower → U' ≡ lowered U (place n r.value r.end) r.upper → Started n k row (i + 1) L' U'
+    pub started_more : (r : Row) {L U L' U' : List ℕ} → r ≡ row i → RowFacts n k r → Started n k row i L U
+        → L' ≡ raised L (place n r.value r.end) r.lower → U' ≡ lowered U (place n r.value r.end) r.upper → Started n k row (i + 1) L' U'
     started_more r is_row good started is_raised is_lowered =
         let rows : list_of (i + 1) row ≡ list_of i row ++ (r ∷ []) = rw is_row rows_more in
         record {
@@ -55,12 +56,9 @@ module _ (b : List ℕ) {n : ℕ} {part : List ℕ} (is_n : n ≡ slots b) (is_p
   row_read i is_row good = rw (is_row, is_part, is_n) good
 
   -- all rows applied: the starting table
-  pub started_all : {i : ℕ} {L U : List ℕ} → i ≡ row_count b → Started n (values b) (row_at part) i L U → Started (slots b) (values b) (row_at (rows_part b)) (row_count b) L U
+  pub started_all : {i : ℕ} {L U : List ℕ} → i ≡ row_count b → Started n (values b) (row_at part) i L U
+      → Started (slots b) (values b) (row_at (rows_part b)) (row_count b) L U
   started_all all started = rw (all, is_part, is_n) at started
-
--- row i lies within the part that begins with the rows
-pub row_inside : (b : List ℕ) (i : ℕ) → 12 + 4 * slots b + 8 * row_count b ≤ length b → i < row_count b → 8 * i + 8 ≤ length (rows_part b)
-row_inside b i inside i<r = omega (arith, length-drop (12 + 4 * slots b) b)
 
 -- a good row's place is one of the table's
 pub row_place : (n k : ℕ) (row : Row) → RowFacts n k row → place n row.value row.end < size n k

@@ -30,7 +30,7 @@ pub fn close_slot(cells: &mut [u16], n: usize, k: u32, slot: usize)
     ensures { cells.new ≡ close_slot n k slot cells.old }
 {
     let at = (k + k) as usize * (n + 2) + slot / 16;
-    cells[at] = domains::less(bits_of(cells[at]), (slot % 16) as u32) as u16;
+    cells[at] = domains::less(cells[at] as u32, (slot % 16) as u32) as u16;
 }
 
 // Puts the slot, which is not in it, into the set of open slots.
@@ -39,7 +39,7 @@ pub fn open_slot(cells: &mut [u16], n: usize, k: u32, slot: usize)
     ensures { cells.new ≡ open_slot n k slot cells.old }
 {
     let at = (k + k) as usize * (n + 2) + slot / 16;
-    cells[at] = domains::with(bits_of(cells[at]), (slot % 16) as u32) as u16;
+    cells[at] = domains::with(cells[at] as u32, (slot % 16) as u32) as u16;
 }
 
 // The gap of the right end at this place of the cells is one more.
@@ -69,10 +69,4 @@ pub fn note_fixed(trail: &mut [u8], n: usize, slot: usize, tag: usize, note: usi
 {
     trail[slot] = note as u8;
     trail[n + slot] = tag as u8;
-}
-
-fn bits_of(x: u16) -> u32
-    ensures { (result ≡ x) × (result < 65536) }
-{
-    x as u32
 }

@@ -1,17 +1,21 @@
-// One call on a session: refused by its number, or done as the plain machine of session_model does it. The contracts cite `Steps` of
+// One call on a session: refused, or done as the plain machine of session_model does it. The contracts cite `Steps` of
 // `specs/Steps.antt`.
 #![tactic(auto)]
 
+ghost use Rattle.std.specs.Prelude.{◌≡◌, ◌+◌};
+ghost use Rattle.answer.specs.Answer.{number_of};
 ghost use Rattle.calls.specs.Given.{call_given};
 ghost use Rattle.acts.specs.Represents.{Running};
 ghost use Rattle.stepping.specs.Steps.{Steps};
 
 use acts::{Session, Stepped, back, is_dead, mark, show, walls};
-use calls::{Call, refusal_of};
+use answer::{Refusal, word};
+use calls::{Call, check_call};
 use deciding::decide;
 use performing::perform;
 
 // Call i of a list: refused, or done.
+#[tactic(auto, using(crate::proofs::StepLaws::steps_done, crate::proofs::StepLaws::steps_refused))]
 pub fn step(
     masks: &mut [u32],
     cells: &mut [u16],
@@ -32,19 +36,15 @@ pub fn step(
     let marks = session.marks;
     let dead = is_dead(standing);
     let limit = heights.len();
-    let number = refusal_of(call, dead, marks, limit, n, k);
-    if number != 0 {
-        return Stepped {
-            session,
-            first: 256 + number as u32,
-            second: 0,
-        };
+    match check_call(call, dead, marks, limit, n, k) {
+        Ok(()) => perform(masks, cells, trail, heights, n, k, session, call, i),
+        Err(refusal) => refused(session, refusal),
     }
-    perform(masks, cells, trail, heights, n, k, session, call, i)
 }
 
 // The same for a call that comes alone, with the arms of `perform` in place of a call. A function of this size is compiled into its caller where
 // that is the only one: a list's loop has `step`, and the entry of a single call has this.
+#[tactic(auto, using(crate::proofs::StepLaws::steps_done, crate::proofs::StepLaws::steps_refused))]
 pub fn step_alone(
     masks: &mut [u32],
     cells: &mut [u16],
@@ -65,49 +65,34 @@ pub fn step_alone(
     let marks = session.marks;
     let dead = is_dead(standing);
     let limit = heights.len();
-    let refusal = refusal_of(call, dead, marks, limit, n, k);
-    if refusal != 0 {
-        return Stepped {
-            session,
-            first: 256 + refusal as u32,
-            second: 0,
-        };
+    if let Err(refusal) = check_call(call, dead, marks, limit, n, k) {
+        return refused(session, refusal);
     }
-    let kind = call.kind;
-    let v = call.value;
-    let slot = call.slot;
-    match kind {
-        1 => {
-            return decide(
-                masks, cells, trail, heights, n, k, session, i, true, slot, v,
-            );
-        }
-        2 => {
-            return decide(
-                masks, cells, trail, heights, n, k, session, i, false, slot, v,
-            );
-        }
-        3 => {
-            return mark(heights, session);
-        }
-        4 => {
-            return back(masks, cells, trail, heights, n, k, session);
-        }
-        5 => {
-            return show(masks, session, slot);
-        }
-        6 => {
-            return walls(cells, n, k, session, false, v);
-        }
-        7 => {
-            return walls(cells, n, k, session, true, v);
-        }
-        0 | 8..=255 => {
-            return Stepped {
-                session,
-                first: 267,
-                second: 0,
-            };
-        }
+    match call {
+        Call::Assign { slot, value } => decide(
+            masks, cells, trail, heights, n, k, session, i, true, slot, value,
+        ),
+        Call::Remove { slot, value } => decide(
+            masks, cells, trail, heights, n, k, session, i, false, slot, value,
+        ),
+        Call::Mark => mark(heights, session),
+        Call::Back => back(masks, cells, trail, heights, n, k, session),
+        Call::Show { slot } => show(masks, session, slot),
+        Call::UpperWalls { value } => walls(cells, n, k, session, false, value),
+        Call::LowerWalls { value } => walls(cells, n, k, session, true, value),
+        Call::Unknown => unreachable!(),
+    }
+}
+
+// What a refused call answers. The session stays as it is.
+fn refused(session: Session, refusal: Refusal) -> Stepped
+    ensures session { result.session ≡ session }
+    ensures first { result.first ≡ 256 + number_of refusal }
+    ensures second { result.second ≡ 0 }
+{
+    Stepped {
+        session,
+        first: word(Err(refusal)),
+        second: 0,
     }
 }

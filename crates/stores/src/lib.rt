@@ -2,7 +2,7 @@
 // specs/Sweep.antt.
 #![tactic(auto)]
 
-ghost use Rattle.std.specs.Prelude.{◌≡◌, ◌-◌, ◌<◌, min, max, length, get_or};
+ghost use Rattle.std.specs.Prelude.{◌≡◌, ◌-◌, ◌<◌, length, get_or};
 ghost use Rattle.std.specs.Int.Bits.{bit_or};
 ghost use Rattle.closing_model.specs.Sweep.{raised, lowered, Stored};
 
@@ -23,37 +23,10 @@ pub fn entry(s: &[u16], p: usize) -> u16
 }
 
 // x less y, 0 where y is more.
-pub fn less(x: usize, y: usize) -> usize
-    ensures { result ≡ x - y }
-{
-    if x < y {
-        return 0;
-    }
-    x - y
-}
-
-// The greater of two numbers.
-pub fn greater(x: usize, y: usize) -> usize
-    ensures { result ≡ max x y }
-{
-    if x < y { y } else { x }
-}
-
-// The lesser of two numbers.
-pub fn lesser(x: usize, y: usize) -> usize
-    ensures { result ≡ min x y }
-{
-    if y < x { y } else { x }
-}
-
-// The same of 16 bits: x less y, 0 where y is more.
 pub fn less16(x: u16, y: u16) -> u16
     ensures { result ≡ x - y }
 {
-    if x < y {
-        return 0;
-    }
-    x - y
+    x.saturating_sub(y)
 }
 
 // The bits of either number: no less than each, 0 where both are, at most 1 where both are.
@@ -68,7 +41,7 @@ pub fn raise(s: &mut [u16], p: usize, x: usize) -> usize
     requires { (p < length s.old) × (x < 65536) }
     ensures { (s.new ≡ raised s.old p x) × (result ≡ get_or s.new p 0) × (result < 65536) }
 {
-    let y = greater(at(s, p), x);
+    let y = at(s, p).max(x);
     s[p] = y as u16;
     y
 }
@@ -78,7 +51,7 @@ pub fn lower_to(s: &mut [u16], p: usize, x: usize) -> usize
     requires { p < length s.old }
     ensures { (s.new ≡ lowered s.old p x) × (result ≡ get_or s.new p 0) × (result < 65536) }
 {
-    let y = lesser(at(s, p), x);
+    let y = at(s, p).min(x);
     s[p] = y as u16;
     y
 }

@@ -14,7 +14,8 @@ use Rattle.filter_model.specs.State.{Removed}
 use Rattle.filter_model.specs.Trail.{put_in, Restores}
 use Rattle.filter_model.proofs.TrailLaws.{restores_done, restores_next}
 
-put_left : (M M' : List ℕ) (s u slot v : ℕ) → M ≡ put_in M' s u → s < length M' → test_bit (get_or M' s 0) u ≡ 0 → HasAt M slot v → test_bit (get_or M' slot 0) v ≡ 0
+put_left : (M M' : List ℕ) (s u slot v : ℕ) → M ≡ put_in M' s u → s < length M' → test_bit (get_or M' s 0) u ≡ 0 → HasAt M slot v
+    → test_bit (get_or M' slot 0) v ≡ 0
     → get_or M' slot 0 ≡ clear_bit (get_or M slot 0) v
 put_left M M' s u slot v put inside lacks has gone =
     let has' : HasAt (put_in M' s u) slot v = rw put at has in

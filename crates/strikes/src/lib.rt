@@ -8,15 +8,18 @@ ghost use Rattle.domains.specs.Masks.{HasAt};
 ghost use Rattle.filter_model.specs.State.{Ready};
 ghost use Rattle.strikes.specs.Answers.{RemovalAnswer};
 
-// One whole strike: not made, since no stable list allows it; or made, with the slots from which on and before which the struck value must be
-// settled, those for the slot's only value, and that value.
+// A strike that was made: the slots from `low_note` on and before `low_reach` must be settled for the struck value, those from `high_note` on and before
+// `high_reach` for the slot's only value, `only`. At a reach 0 there are none.
 #[derive(Clone, Copy)]
-pub enum Removal {
-    Contradiction,
-    Made(usize, usize, usize, usize, u32),
+pub struct Struck {
+    pub low_note: usize,
+    pub low_reach: usize,
+    pub high_note: usize,
+    pub high_reach: usize,
+    pub only: u32,
 }
 
-// Strikes v, which the slot has, and brings the counts up to date; or finds that no stable list allows it, and changes nothing.
+// Strikes v, which the slot has, and brings the counts up to date; or None, where no stable list allows it, and nothing changes.
 pub fn strike_one(
     masks: &mut [u32],
     cells: &mut [u16],
@@ -26,27 +29,33 @@ pub fn strike_one(
     top: usize,
     slot: usize,
     v: u32,
-) -> Removal
+) -> Option<Struck>
     requires { Ready masks.old cells.old trail.old n k top slot v × HasAt masks.old slot v }
     ensures { RemovalAnswer n k masks.old cells.old trail.old top
         masks.new cells.new trail.new slot v result }
 {
     let m = slots::without_value(masks, slot, v);
     if m == 0 {
-        return Removal::Contradiction;
+        return None;
     }
     if slot < descents::spent(cells, v, n) {
-        return Removal::Contradiction;
+        return None;
     }
     if !domains::is_single(m) {
         state_stores::store(masks, slot, m);
         let low = descents::fall_row(cells, v, n, slot);
         state_stores::push(trail, n, top, slot, v, low.tag, low.note);
-        return Removal::Made(low.note, low.reach, 0, 0, 0);
+        return Some(Struck {
+            low_note: low.note,
+            low_reach: low.reach,
+            high_note: 0,
+            high_reach: 0,
+            only: 0,
+        });
     }
     let w = domains::single_value(m);
     if slot < descents::spent(cells, k + w, n) {
-        return Removal::Contradiction;
+        return None;
     }
     state_stores::store(masks, slot, m);
     let low = descents::fall_row(cells, v, n, slot);
@@ -54,5 +63,11 @@ pub fn strike_one(
     let high = descents::fall_row(cells, k + w, n, slot);
     state_stores::close_slot(cells, n, k, slot);
     state_stores::note_fixed(trail, n, slot, high.tag, high.note);
-    Removal::Made(low.note, low.reach, high.note, high.reach, w)
+    Some(Struck {
+        low_note: low.note,
+        low_reach: low.reach,
+        high_note: high.note,
+        high_reach: high.reach,
+        only: w,
+    })
 }

@@ -1,5 +1,5 @@
--- The laws of `specs/Undone.antt`: one strike (`upper_undone`, `strike_undone`; `strike_lifted`, the common one), the strikes one by one (`putting_start`, `putting_next`,
--- `putting_step`, `putting_end`), and what a session cites: after any call of the filter, Live or Dead, its strikes may be taken back
+-- The laws of `specs/Undone.antt`: one strike (`upper_undone`, `strike_undone`; `strike_lifted`, the common one), the strikes one by one
+-- (`putting_start`, `putting_next`, `putting_step`, `putting_end`), and what a session cites: after any call of the filter, Live or Dead, its strikes may be taken back
 -- (`moved_undoable`), and that gives the masks and the cells at its entry (`moved_undone`). No contract cites this file. Assumes nothing.
 use mathlib.Core.Path.{◌≡◌, refl, sym, ap, ◌∙◌}
 use mathlib.Core.List.{List}
@@ -188,7 +188,8 @@ putting_start masks cells trail n k from to from≤to =
 module _ {masks₀ cells₀ trail masks cells : List ℕ} {n k from to i : ℕ} (putting : Putting masks₀ cells₀ trail n k from to masks cells i) where
   module _ (from<i : from < i) where
     putting_next : (old c : List ℕ) → Restores n k trail from (to - from) masks₀ cells₀ old c
-        → Next n k trail from (i - 1 - from) (slot_at n trail (i - 1)) (value_at n trail (i - 1)) (tag_at n trail (i - 1)) (note_at n trail (i - 1)) masks cells old c
+        → Next n k trail from (i - 1 - from) (slot_at n trail (i - 1)) (value_at n trail (i - 1)) (tag_at n trail (i - 1)) (note_at n trail (i - 1))
+        masks cells old c
     putting_next old c restores =
         let steps : i - from ≡ suc (i - 1 - from) = omega arith in
         let place : from + (i - 1 - from) ≡ i - 1 = omega arith in

@@ -23,9 +23,7 @@ pub fn undo(
     requires { Undoable masks.old cells.old trail.now n k from to }
     ensures { Undone masks.old cells.old trail.now n k from to masks.new cells.new }
 {
-    let mut i = to;
-    while from < i {
-        i -= 1;
+    for i in (from..to).rev() {
         take_back(masks, cells, trail, n, k, i);
     }
 }
@@ -36,9 +34,9 @@ fn take_back(masks: &mut [u32], cells: &mut [u16], trail: &[u8], n: usize, k: u3
     ensures { StrikeUndone masks.old cells.old trail.now n k i masks.new cells.new }
 {
     let p = 2 * n + 3 * i;
-    let slot = wide(trail[p]);
-    let both = wide(trail[p + 1]);
-    let note = wide(trail[p + 2]);
+    let slot = trail[p] as usize;
+    let both = trail[p + 1] as usize;
+    let note = trail[p + 2] as usize;
     if both < 32 {
         lift_cell(cells, both * (n + 2) + note + 2);
         put_in(masks, slot, both as u32);
@@ -64,8 +62,8 @@ fn raise_fixed(masks: &[u32], cells: &mut [u16], trail: &[u8], n: usize, k: u32,
         k + w,
         n,
         slot,
-        wide(trail[n + slot]),
-        wide(trail[slot]),
+        trail[n + slot] as usize,
+        trail[slot] as usize,
     );
 }
 
@@ -75,10 +73,4 @@ fn raise_row(cells: &mut [u16], row: u32, n: usize, slot: usize, tag: usize, not
     ensures { cells.new ≡ over (row * (n + 2)) (n + 2) (risen (n + 1) tag note) cells.old }
 {
     raising::raise_in(cells, row as usize * (n + 2), n, slot, tag, note);
-}
-
-fn wide(x: u8) -> usize
-    ensures { result ≡ x }
-{
-    x as usize
 }

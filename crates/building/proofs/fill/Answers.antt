@@ -15,64 +15,50 @@ loop-t-init c = (omega arith, refl, c.requires.5, c.requires.6)
 
 pub visit-requires : goal.visit-requires
 visit-requires c =
-    let chosen = c in
-    let turn = chosen in
-    let lower = turn.args.lower in
-    omega (arith, chosen.choose-gained.ensures, choice_bound turn.loop-t.invariant.2 lower, turn.loop-t.invariant.3.laid.filling.first.after, turn.loop-t.invariant.3.laid.filling.first.inside)
+    let inv = c.loop-t.invariant in
+    omega (arith, c.choose-gained.ensures, choice_bound inv.2 c.args.lower, inv.3.laid.filling.first.after, inv.3.laid.filling.first.inside)
 
 pub shape_of-cells-in_default : goal.shape_of-cells-in_default
 shape_of-cells-in_default c =
-    let visited = c in
-    omega (arith, visited.loop-t.invariant.1, visited.visit.ensures.size)
+    omega (arith, c.loop-t.invariant.1, c.visit.ensures.size)
 
 pub returns-in_default : goal.returns-in_default
 returns-in_default c =
-    let visited = c in
-    let chosen = visited in
-    let turn = chosen in
-    built_broken _ _ _ _ _ _ _ (omega (arith, turn.loop-t.invariant.1, visited.visit.ensures.size)) turn.loop-t.t
-    (turn_broken _ turn.loop-t.invariant.2 _ _ _ turn.loop-t.invariant.3 chosen.corner_at-corner.ensures chosen.choose-gained.ensures
-    chosen.choose-lost.ensures visited.visit.ensures turn.loop-t.invariant.0 c.in_default.is)
+    built_broken _ _ _ _ _ _ _ (omega (arith, c.loop-t.invariant.1, c.visit.ensures.size)) c.loop-t.t
+    (turn_broken _ c.loop-t.invariant.2 _ _ _ c.loop-t.invariant.3 c.corner_at-corner.ensures c.choose-gained.ensures
+    c.choose-lost.ensures c.visit.ensures c.loop-t.invariant.0 c.in_default.is)
 
 pub previous_corner-s-requires : goal.previous_corner-s-requires
 previous_corner-s-requires c =
-    let test = c in
-    let turn = test in
-    let start = turn in
-    omega (arith, test.loop-t-test.true, turn.loop-t.invariant.0, start.requires.1, start.requires.4)
+    omega (arith, c.loop-t-test.true, c.loop-t.invariant.0, c.requires.1, c.requires.4)
 
 pub count_back-before-requires : goal.count_back-before-requires
-count_back-before-requires c =
-    let turn = c in
-    let start = turn in (
-      omega (arith, c.previous_corner-s.ensures.before),
-      omega (arith, turn.loop-t.invariant.0, start.requires.1),
-      omega (arith, turn.loop-t.invariant.0, start.requires.2),
-      start.requires.4,
-      turn.loop-t.invariant.2,
-    )
+count_back-before-requires c = (
+  omega (arith, c.previous_corner-s.ensures.before),
+  omega (arith, c.loop-t.invariant.0, c.requires.1),
+  omega (arith, c.loop-t.invariant.0, c.requires.2),
+  c.requires.4,
+  c.loop-t.invariant.2,
+)
 
 pub loop-t-smaller : goal.loop-t-smaller
 loop-t-smaller c = omega (arith, c.previous_corner-s.ensures.before)
 
 pub loop-t-preserved : goal.loop-t-preserved
 loop-t-preserved c =
-    let visited = c in
-    let chosen = visited in
-    let turn = chosen in
+    let inv = c.loop-t.invariant in
     let found = c.previous_corner-s.ensures in (
-      omega (arith, found.before, turn.loop-t.invariant.0),
-      omega (arith, turn.loop-t.invariant.1, visited.visit.ensures.size),
+      omega (arith, found.before, inv.0),
+      omega (arith, c.loop-t.invariant.1, c.visit.ensures.size),
       c.count_back-before.ensures,
-      done_back turn.loop-t.invariant.0 (turn_onward _ turn.loop-t.invariant.2 _ _ _ turn.loop-t.invariant.3 chosen.corner_at-corner.ensures chosen.choose-gained.ensures
-          chosen.choose-lost.ensures visited.visit.ensures turn.loop-t.invariant.0 c.in-Onward.is) found,
+      done_back inv.0 (turn_onward _ inv.2 _ _ _ inv.3 c.corner_at-corner.ensures c.choose-gained.ensures c.choose-lost.ensures c.visit.ensures inv.0
+          c.in-Some.is) found,
     )
 
 pub point-requires : goal.point-requires
 point-requires c =
     let all = c.loop-t in
-    let start = c in
-    omega (arith, all.invariant.1, all.invariant.3.laid.filling.first.after, all.invariant.3.laid.filling.first.inside, start.requires.0, start.requires.3)
+    omega (arith, all.invariant.1, all.invariant.3.laid.filling.first.after, all.invariant.3.laid.filling.first.inside, c.requires.0, c.requires.3)
 
 pub shape_of-cells : goal.shape_of-cells
 shape_of-cells c = c.point.ensures.size ∙ c.loop-t.invariant.1
@@ -80,10 +66,9 @@ shape_of-cells c = c.point.ensures.size ∙ c.loop-t.invariant.1
 pub returns : goal.returns
 returns c =
     let all = c.loop-t in
-    let start = c in
     let pointed = c.point.ensures in
     let none : all.t ≡ 0 = omega (arith, c.loop-t-test.false) in
-    let done : DoneAfter start.args.lower start.args.n start.args.rises.now start.args.masks.now start.args.v 0 all.cells all.next =
+    let done : DoneAfter c.args.lower c.args.n c.args.rises.now c.args.masks.now c.args.v 0 all.cells all.next =
     rw none at all.invariant.3 in
     built_all _ _ _ _ _ _ _ (pointed.size ∙ all.invariant.1) 0 _ refl
-    (done_point done (omega (arith, all.invariant.1, start.requires.0)) _ (le_refl all.next) _ pointed)
+    (done_point done (omega (arith, all.invariant.1, c.requires.0)) _ (le_refl all.next) _ pointed)

@@ -5,23 +5,12 @@ use Rattle.canonical.proofs.write_book.Goals as goal
 
 pub write_rows-requires : goal.write_rows-requires
 write_rows-requires c =
-    let masks = c in
-    let header = masks in
-    let read = header in
-    let start = read in
-    let args = start.args in
-    let n_is = read.slots-n.ensures.0 in
-    let k_is = read.values-k.ensures.0 in
-    let room = rows_room args.book.now args.lowers.now args.uppers.now n_is k_is start.requires.1.count start.requires.1.room in
-    (closed_lines start.requires.0 n_is k_is, omega (arith, header.write_header.auto.out, masks.write_masks.auto.out, room))
+    let n_is = c.slots-n.ensures.0 in
+    let k_is = c.values-k.ensures.0 in
+    let room = rows_room c.args.book.now c.args.lowers.now c.args.uppers.now n_is k_is c.requires.1.count c.requires.1.room in
+    (closed_lines c.requires.0 n_is k_is, omega (arith, c.write_header.auto.out, c.write_masks.auto.out, room))
 
 pub returns : goal.returns
 returns c =
-    let rows = c in
-    let masks = rows in
-    let header = masks in
-    let read = header in
-    let start = read in
-    let args = start.args in
-    canonical_stored args.book.now args.lowers.now args.uppers.now read.slots-n.ensures.0 read.values-k.ensures.0 args.out.now
-    header.idle.ensures.0 start.requires.1.count header.write_header.ensures masks.write_masks.ensures rows.write_rows.ensures
+    canonical_stored c.args.book.now c.args.lowers.now c.args.uppers.now c.slots-n.ensures.0 c.values-k.ensures.0 c.args.out.now
+    c.idle.ensures.0 c.requires.1.count c.write_header.ensures c.write_masks.ensures c.write_rows.ensures

@@ -1,13 +1,10 @@
--- What each turn of `canonical_rows::count_rows` keeps, and what falls from turn to turn.
+-- What each turn of `canonical_rows::count_rows` keeps.
 use mathlib.Core.Path.{◌≡◌}
-use Prim.Native.Nat.{◌-◌, ◌*◌, ◌≤◌}
+use Prim.Native.Nat.{◌*◌, ◌≤◌}
 use lib.ListN.{length}
 use Rattle.closing_model.specs.Table.{view}
 use Rattle.canonical_model.specs.CornerRows.{canonical_rows}
 use Rattle.canonical_rows.proofs.count_rows.Given as goal
 
 abbrev pub invariant-loop-v : goal.invariant-loop-v
-invariant-loop-v l = (l.count ≡ length (canonical_rows l.n l.v (view l.lowers l.uppers))) × (l.v ≤ l.k) × (l.count ≤ 256 * l.v)
-
-abbrev pub decreases-loop-v : goal.decreases-loop-v
-decreases-loop-v l = l.k - l.v
+invariant-loop-v l = (l.count ≡ length (canonical_rows l.n l.v (view l.lowers l.uppers))) × (l.count ≤ 256 * l.v)

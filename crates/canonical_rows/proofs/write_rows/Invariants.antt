@@ -1,12 +1,8 @@
--- What each turn of `canonical_rows::write_rows` keeps, and what falls from turn to turn.
-use Prim.Native.Nat.{◌-◌, ◌≤◌}
+-- What each turn of `canonical_rows::write_rows` keeps.
 use Rattle.closing_model.specs.Table.{view}
 use Rattle.canonical_model.specs.CornerRows.{canonical_rows}
 use Rattle.canonical_rows.specs.Lines.{RowsWritten}
 use Rattle.canonical_rows.proofs.write_rows.Given as goal
 
 abbrev pub invariant-loop-v : goal.invariant-loop-v
-invariant-loop-v l = (l.v ≤ l.k) × RowsWritten (canonical_rows l.n l.v (view l.lowers l.uppers)) l.initial.out l.place l.out l.next
-
-abbrev pub decreases-loop-v : goal.decreases-loop-v
-decreases-loop-v l = l.k - l.v
+invariant-loop-v l = RowsWritten (canonical_rows l.n l.v (view l.lowers l.uppers)) l.initial.out l.place l.out l.next

@@ -1,13 +1,10 @@
 -- `closing::close_exactly` meets its contract: the starting table goes to `close_table`, whose answer is the model's (`wrote_live`,
 -- `wrote_dead`). Assumes nothing.
 use mathlib.Core.Path.{◌≡◌, ap, ◌∙◌}
-use mathlib.Core.Bool.{Bool, true, false}
 use Prim.Native.Nat.{ℕ}
 use native.Mathlib.Omega.{arith}
 use lib.ListN.{length, replicate}
-use Rattle.closing_model.specs.Closing.{closing}
 use Rattle.closing_model.specs.Start.{entries}
-use Rattle.bounds.specs.Answer.{answered}
 use Rattle.closing.proofs.CloseLaws.{wrote_live, wrote_dead}
 use Rattle.closing.proofs.close_exactly.Goals as goal
 
@@ -22,20 +19,16 @@ close_table-requires c =
 
 pub returns-then-close_table : goal.returns-then-close_table
 returns-then-close_table c =
-    let says : (r : Bool) → c.close_table.result ≡ r → closing c.slots.result c.values.result c.start_table.new.lowers c.start_table.new.uppers ≡ answered r c.close_table.new.lowers c.close_table.new.uppers =
-    λ r answer. c.close_table.ensures ∙ ap (λ (r : Bool). answered r c.close_table.new.lowers c.close_table.new.uppers) answer in
     wrote_live c.args.book.now _ _ _ _ c.slots.ensures.0 c.values.ensures.0 c.start_table.ensures.lowers_after c.start_table.ensures.uppers_after _ _
-    (says true c.if-close_table.true)
+    (rw c.if-close_table.true at c.close_table.ensures)
 
 pub returns : goal.returns
 returns c =
-    let says : (r : Bool) → c.close_table.result ≡ r → closing c.slots.result c.values.result c.start_table.new.lowers c.start_table.new.uppers ≡ answered r c.close_table.new.lowers c.close_table.new.uppers =
-    λ r answer. c.close_table.ensures ∙ ap (λ (r : Bool). answered r c.close_table.new.lowers c.close_table.new.uppers) answer in
     let lowers_long : length c.close_table.new.lowers ≡ entries c.args.book.now =
     c.close_table.auto.lowers ∙ c.start_table.auto.lowers ∙ c.requires.lowers in
     let uppers_long : length c.close_table.new.uppers ≡ entries c.args.book.now =
     c.close_table.auto.uppers ∙ c.start_table.auto.uppers ∙ c.requires.uppers in
     wrote_dead c.args.book.now _ _ _ _ c.slots.ensures.0 c.values.ensures.0 c.start_table.ensures.lowers_after c.start_table.ensures.uppers_after
-    (says false c.if-close_table.false)
+    (rw c.if-close_table.false at c.close_table.ensures)
     (c.fill_zeros.ensures ∙ ap (λ (m : ℕ). replicate m 0) lowers_long)
     (c.fill_zeros-2.ensures ∙ ap (λ (m : ℕ). replicate m 0) uppers_long)

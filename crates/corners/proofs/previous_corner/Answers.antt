@@ -1,6 +1,8 @@
 -- `corners::previous_corner` meets its contract. The invariant: i is below t, the line turns at i unless i is 0, and no corner lies between i and
 -- t (`Cornerless`). The measure is i. One turn back: `cornerless_more`; a turn by the kind's own step is the corner (`turn_corner`). Assumes nothing.
+use mathlib.Core.Path.{◌∙◌}
 use native.Mathlib.Omega.{arith}
+use Rattle.corners.proofs.MaskTestLaws.{from_bool_bit}
 use Rattle.corners.proofs.TurnLaws.{turn_corner, cornerless_start, cornerless_more}
 use Rattle.corners.proofs.previous_corner.Goals as goal
 
@@ -10,15 +12,15 @@ loop-i-init c =
     let a = c.args in
     (found.before, found.turns, cornerless_start a.lower a.n a.rises.now a.v a.t c.requires.1 _ found)
 
-pub returns-then-rise-one : goal.returns-then-rise-one
-returns-then-rise-one c =
+pub returns-then-rise-from : goal.returns-then-rise-from
+returns-then-rise-from c =
     let found = c.loop-i in
-    let start = c in
-    let a = start.args in
+    let a = c.args in
+    let own_step = c.from.ensures ∙ from_bool_bit a.lower in
     record {
       before = found.invariant.0;
       corner = λ 0<i. turn_corner a.lower a.n a.rises.now a.v found.i 0<i (omega arith) (found.invariant.1 0<i)
-          (omega (arith, c.if-rise-one.true, c.rise.ensures, c.one.ensures));
+          (omega (arith, c.if-rise-from.true, c.rise.ensures, own_step));
       none = found.invariant.2;
     }
 
@@ -28,13 +30,12 @@ loop-i-smaller c = omega (arith, c.previous_turn-i-in-loop-i.ensures.before)
 pub loop-i-preserved : goal.loop-i-preserved
 loop-i-preserved c =
     let found = c.previous_turn-i-in-loop-i.ensures in
-    let turn = c in
-    let start = turn in
-    let a = start.args in (
-      omega (arith, found, turn.loop-i.invariant.0),
+    let a = c.args in
+    let own_step = c.from.ensures ∙ from_bool_bit a.lower in (
+      omega (arith, found, c.loop-i.invariant.0),
       found.turns,
-      cornerless_more a.lower a.n a.rises.now a.v a.t start.requires.1 turn.loop-i.i _ c.loop-i-test.true turn.loop-i.invariant.0 turn.loop-i.invariant.2
-          (λ own. omega (arith, own, c.if-rise-one.false, c.rise.ensures, c.one.ensures)) found,
+      cornerless_more a.lower a.n a.rises.now a.v a.t c.requires.1 c.loop-i.i _ c.loop-i-test.true c.loop-i.invariant.0 c.loop-i.invariant.2
+          (λ own. omega (arith, own, c.if-rise-from.false, c.rise.ensures, own_step)) found,
     )
 
 pub returns : goal.returns

@@ -1,8 +1,8 @@
--- `corners::rise` meets its contract: a bit is 1 where the mask has the value, else 0 (`bit_test_bit`). Assumes nothing.
+-- `corners::rise` meets its contract: a bit is 1 where the mask has the value, else 0 (`from_bool_bit`, `bit_test_bit`). Assumes nothing.
 use mathlib.Core.Path.{ap, ◌∙◌}
-use Rattle.domains.specs.Counts.{bit}
-use Rattle.corners.proofs.MaskTestLaws.{bit_test_bit}
+use mir.Val.{bool_byte as from_bool}
+use Rattle.corners.proofs.MaskTestLaws.{bit_test_bit, from_bool_bit}
 use Rattle.corners.proofs.rise.Goals as goal
 
 pub returns : goal.returns
-returns c = c.one.ensures ∙ ap bit c.has.ensures ∙ bit_test_bit _ _
+returns c = c.from.ensures ∙ ap from_bool c.has.ensures ∙ from_bool_bit _ ∙ bit_test_bit _ _

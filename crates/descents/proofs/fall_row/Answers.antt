@@ -1,14 +1,11 @@
 -- `descents::fall_row` meets its contract: the answer of `segments::fall_in`, read as a clash, a reach, a tag and a note (`dropped_lowered` to
 -- `dropped_reached`). Assumes nothing.
 use mathlib.Core.Path.{◌∙◌}
-use Rattle.descents.proofs.FallLaws.{lowered_after, dropped_lowered, dropped_still, dropped_joined, dropped_clash, dropped_reached}
+use Rattle.descents.proofs.FallLaws.{dropped_lowered, dropped_still, dropped_joined, dropped_clash, dropped_reached}
 use Rattle.descents.proofs.fall_row.Goals as goal
 
-pub first_end-g-requires : goal.first_end-g-requires
-first_end-g-requires c = lowered_after c.args.row c.args.n c.fall_in-hit.ensures c.in-Lowered.is
-
 pub returns-in-Lowered : goal.returns-in-Lowered
-returns-in-Lowered c = dropped_lowered c.args.row c.args.n c.fall_in-hit.ensures c.requires.2 c.in-Lowered.is c.first_end-g.ensures c.fell_by.ensures
+returns-in-Lowered c = dropped_lowered c.args.row c.args.n c.fall_in-hit.ensures c.requires.2 c.in-Lowered.is c.saturating_sub-g.ensures c.fell_by.ensures
 
 pub returns-in-Still : goal.returns-in-Still
 returns-in-Still c = dropped_still c.args.row c.args.n c.fall_in-hit.ensures c.in-Still.is c.fell_by-in-Still.ensures

@@ -605,7 +605,7 @@ strike-live_at-requires-then-b-eq0 t c =
 pub strike-returns-then-b-eq0 : goal.strike-returns-then-b-eq0
 strike-returns-then-b-eq0 t c =
     let args = c.args in
-    let made = answer_removed _ _ _ _ _ args.top _ _ _ _ _ c.strike_one-o.ensures c.in-Made.is in
+    let made = answer_removed _ _ _ _ _ args.top _ _ _ _ _ c.strike_one-o.ensures c.in-Some.is in
     filtered_at (sym c.live_at-then-b-eq0.ensures) (strike_followed made (follow_none c.if-a-eq0.true c.if-b-eq0.true))
 
 pub strike-overflow_add-top-2 : goal.strike-overflow_add-top-2
@@ -620,7 +620,7 @@ strike-overflow_add-top-2 t c =
 pub strike-follow-requires : goal.strike-follow-requires
 strike-follow-requires t c =
     let args = c.args in
-    let made = answer_removed _ _ _ _ _ args.top _ _ _ _ _ c.strike_one-o.ensures c.in-Made.is in
+    let made = answer_removed _ _ _ _ _ args.top _ _ _ _ _ c.strike_one-o.ensures c.in-Some.is in
     let pre = c.requires in
     let world = world_moved pre.world made.moved in (
       omega (arith, made.moved.height, c.decreases),
@@ -633,7 +633,7 @@ strike-follow-requires t c =
 pub strike-returns : goal.strike-returns
 strike-returns t c =
     let args = c.args in
-    let made = answer_removed _ _ _ _ _ args.top _ _ _ _ _ c.strike_one-o.ensures c.in-Made.is in
+    let made = answer_removed _ _ _ _ _ args.top _ _ _ _ _ c.strike_one-o.ensures c.in-Some.is in
     strike_followed made c.follow.ensures
 
 pub strike-shape_of-masks-then-b-eq0 : goal.strike-shape_of-masks-then-b-eq0

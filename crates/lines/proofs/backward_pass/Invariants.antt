@@ -1,4 +1,4 @@
--- What each turn of `lines::backward_pass` keeps, and what falls from turn to turn.
+-- What each turn of `lines::backward_pass` keeps.
 use mathlib.Core.Path.{◌≡◌}
 use Prim.Native.Nat.{◌+◌, ◌-◌, ◌≤◌}
 use Rattle.closing_model.proofs.LineLaws.{BackwardInv}
@@ -6,6 +6,3 @@ use Rattle.lines.proofs.backward_pass.Given as goal
 
 abbrev pub invariant-loop-t : goal.invariant-loop-t
 invariant-loop-t l = (l.d + l.t ≡ l.n) × (l.d ≤ l.a) × BackwardInv l.base l.n l.initial.lowers l.initial.uppers l.lowers l.uppers (l.a - l.d) l.b l.t
-
-abbrev pub decreases-loop-t : goal.decreases-loop-t
-decreases-loop-t l = l.t

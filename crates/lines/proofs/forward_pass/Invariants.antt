@@ -1,10 +1,6 @@
--- What each turn of `lines::forward_pass` keeps, and what falls from turn to turn.
-use Prim.Native.Nat.{◌-◌}
+-- What each turn of `lines::forward_pass` keeps.
 use Rattle.closing_model.proofs.LineLaws.{ForwardInv}
 use Rattle.lines.proofs.forward_pass.Given as goal
 
 abbrev pub invariant-loop-t : goal.invariant-loop-t
 invariant-loop-t l = ForwardInv l.base l.n l.initial.lowers l.initial.uppers l.lowers l.uppers l.a l.b l.t
-
-abbrev pub decreases-loop-t : goal.decreases-loop-t
-decreases-loop-t l = l.n - l.t

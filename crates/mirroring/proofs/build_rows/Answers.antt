@@ -1,25 +1,12 @@
--- `mirroring::build_rows` meets its contract. The invariant of its loop: the rows of the values below v are built (`RowsBuilt`). The measure is
--- k less v. Each turn is `rows_more`. Assumes nothing.
+-- `mirroring::build_rows` meets its contract. The invariant of its loop: the rows of the values below v are built (`RowsBuilt`). Each turn is
+-- `rows_more`. Assumes nothing.
 use native.Mathlib.Omega.{arith}
 use borrow.Author.Tests.{not-true, not-false}
-use Rattle.mirroring.proofs.BuiltLaws.{row_from_below, row_fits, rows_none, rows_more, rows_broken, rows_all}
+use Rattle.mirroring.proofs.BuiltLaws.{row_fits, rows_none, rows_more, rows_broken, rows_all}
 use Rattle.mirroring.proofs.build_rows.Goals as goal
 
 pub loop-v-init : goal.loop-v-init
-loop-v-init c = record { done = rows_none _ _ _ _ _ _; within = omega arith }
-
-pub overflow_add-first : goal.overflow_add-first
-overflow_add-first c =
-    let args = c.args in
-    let pre = c.requires in
-    let below = row_from_below args.lower args.k c.loop-v.v args.first pre.1 c.loop-v-test.true in
-    omega (arith, pre.0.values_fit)
-
-pub overflow_mul-first : goal.overflow_mul-first
-overflow_mul-first c =
-    let args = c.args in
-    let pre = c.requires in
-    omega (arith, row_fits pre.0 args.lower c.loop-v.v args.first pre.1 c.loop-v-test.true)
+loop-v-init c = rows_none _ _ _ _ _ _
 
 pub build_in-requires : goal.build_in-requires
 build_in-requires c =
@@ -27,7 +14,7 @@ build_in-requires c =
     let pre = c.requires in
     let building = pre.0 in
     let fits = row_fits building args.lower c.loop-v.v args.first pre.1 c.loop-v-test.true in (
-      omega (arith, fits, c.loop-v.invariant.done.size),
+      omega (arith, fits, c.loop-v.invariant.size),
       building.rises_in,
       building.slots,
       omega (arith, building.slots_fit),
@@ -40,18 +27,7 @@ returns-then-not-build_in c =
     let loop-test = c.loop-v-test in
     let loop = c.loop-v in
     let pre = c.requires in
-    rows_broken pre.0 pre.1 loop-test.true loop.invariant.done build-in.ensures (not-true _ c.if-not-build_in.true-raw)
-
-pub overflow_step-v : goal.overflow_step-v
-overflow_step-v c =
-    let loop-test = c.loop-v-test in
-    let fits = c.ranges in
-    omega (arith, loop-test.true, fits.k)
-
-pub loop-v-smaller : goal.loop-v-smaller
-loop-v-smaller c =
-    let loop-test = c.loop-v-test in
-    omega (arith, loop-test.true)
+    rows_broken pre.0 pre.1 loop-test.true loop.invariant build-in.ensures (not-true _ c.if-not-build_in.true-raw)
 
 pub loop-v-preserved : goal.loop-v-preserved
 loop-v-preserved c =
@@ -59,10 +35,7 @@ loop-v-preserved c =
     let loop-test = c.loop-v-test in
     let loop = c.loop-v in
     let pre = c.requires in
-    record {
-      done = rows_more pre.0 pre.1 loop-test.true loop.invariant.done build-in.ensures (not-false _ c.if-not-build_in.false-raw);
-      within = omega (arith, loop-test.true);
-    }
+    rows_more pre.0 pre.1 loop-test.true loop.invariant build-in.ensures (not-false _ c.if-not-build_in.false-raw)
 
 pub returns : goal.returns
-returns c = rows_all c.loop-v-test.false c.loop-v.invariant.done
+returns c = rows_all c.loop-v-test.false c.loop-v.invariant

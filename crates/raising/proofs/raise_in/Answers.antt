@@ -8,6 +8,7 @@ use Rattle.raising.proofs.raise_in.Goals as goal
 
 pub raise-requires : goal.raise-requires
 raise-requires c =
-    let pre = c.before.before.requires in
-    let args = c.before.before.args in
-    (omega (arith, pre.0), search rules, omega (arith, pre.2), part_mid args.base args.n (λ l. Raisable (args.n + 1) args.slot args.tag args.note l) args.cells.now pre.3)
+    let pre = c.requires in
+    let args = c.args in
+    let raisable = part_mid args.base args.n (λ l. Raisable (args.n + 1) args.slot args.tag args.note l) args.cells.now pre.3 in
+    (omega (arith, pre.0), search rules, omega (arith, pre.2), raisable)

@@ -1,5 +1,5 @@
--- `right_ends::latest_standing` meets its contract. The invariant: p is at most the slot and not before z, and nothing stands between p and the slot.
--- The measure is p. One more place passed: `gap_before`. Assumes nothing.
+-- `right_ends::latest_standing` meets its contract. The invariant: z is before p, which is at most the place after the slot, and nothing stands from
+-- p up to the slot. One more place passed: `gap_before`. Assumes nothing.
 use mathlib.Core.Path.{◌≡◌}
 use Prim.Native.Nat.{◌+◌, ◌-◌}
 use native.Mathlib.Omega.{arith}
@@ -9,27 +9,28 @@ use Rattle.segments_model.proofs.SearchLaws.{gap_before}
 use Rattle.right_ends.proofs.latest_standing.Goals as goal
 
 pub loop-p-init : goal.loop-p-init
-loop-p-init c = (c.requires.0, omega arith, λ i a b. absurd (omega arith))
+loop-p-init c = (omega arith, λ i a b. absurd (omega arith))
 
 pub returns-then-cells-p-lt1024 : goal.returns-then-cells-p-lt1024
 returns-then-cells-p-lt1024 c =
-    let now = c.before.before.before.loop-p in
-    let a = c.before.before.before.before.args in
+    let now = c.loop-p in
+    let back : now.p - 1 + 1 ≡ now.p = omega arith in
     record {
-      from = now.invariant.0;
-      before = now.invariant.1;
-      stands = λ z<p. omega (arith, gaps_end a.cells.now now.p (omega arith) (omega arith) (omega arith));
-      gap = now.invariant.2;
+      from = omega arith;
+      before = omega arith;
+      stands = λ z<p. omega (arith, gaps_end c.args.cells.now (now.p - 1) (omega arith) (omega arith) (omega arith));
+      gap = rw back now.invariant.1;
     }
 
 pub loop-p-preserved : goal.loop-p-preserved
 loop-p-preserved c =
-    let now = c.before.before.before.loop-p in
-    let a = c.before.before.before.before.args in
+    let now = c.loop-p in
+    let cells = c.args.cells.now in
     let back : now.p - 1 + 1 ≡ now.p = omega arith in
-    (omega arith, omega arith, rw back (gap_before (gaps a.cells.now) now.p (a.slot + 1) now.invariant.2 (gaps_link a.cells.now now.p (omega arith) (omega arith) (omega arith))))
+    let link = gaps_link cells (now.p - 1) (omega arith) (omega arith) (omega arith) in
+    (omega arith, gap_before (gaps cells) (now.p - 1) (c.args.slot + 1) (rw back now.invariant.1) link)
 
 pub returns : goal.returns
 returns c =
-    let inv = c.before.loop-p.invariant in
-    record { from = inv.0; before = inv.1; stands = λ z<p. absurd (omega arith); gap = inv.2 }
+    let last : c.loop-p.p ≡ c.args.z + 1 = omega arith in
+    record { from = omega arith; before = omega arith; stands = λ z<p. absurd (omega arith); gap = rw last at c.loop-p.invariant.1 }

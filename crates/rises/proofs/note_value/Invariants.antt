@@ -1,11 +1,8 @@
--- What each turn of `rises::note_value` keeps, and what falls from turn to turn.
-use Prim.Native.Nat.{◌+◌, ◌-◌, ◌≤◌}
+-- What each turn of `rises::note_value` keeps.
+use Prim.Native.Nat.{◌+◌}
 use Rattle.filling.proofs.FillLaws.{Filled}
 use Rattle.rises.specs.Rises.{rise_mask}
 use Rattle.rises.proofs.note_value.Given as goal
 
 abbrev pub invariant-loop-t : goal.invariant-loop-t
-invariant-loop-t l = (l.t ≤ l.n) × Filled (rise_mask l.n l.table (l.v + 1)) l.initial.rises (l.t + 1) l.rises
-
-abbrev pub decreases-loop-t : goal.decreases-loop-t
-decreases-loop-t l = l.n - l.t
+invariant-loop-t l = Filled (rise_mask l.n l.table (l.v + 1)) l.initial.rises (l.t + 1) l.rises

@@ -7,4 +7,8 @@ use Rattle.session_bytes.proofs.SessionBytesLaws.{overlay_exact, bytes_overlay, 
 use Rattle.session_bytes.proofs.session_out.Goals as goal
 
 pub returns : goal.returns
-returns c = let exactly = c.run_exactly-answer.ensures in rw c.word.ensures (session_ran (bytes_of 4) c.args.book.now c.args.calls.now c.run_exactly-answer.result exactly.answer (exactly.words ∙ overlay_exact _ _ (words_length c.args.book.now c.args.calls.now most_marks ∙ sym c.requires.words_exact)) exactly.masks (c.write32.ensures ∙ bytes_overlay _ _) (c.write32-2.ensures ∙ bytes_overlay _ _))
+returns c =
+    let ran = c.run_exactly-verdict in
+    let long = words_length c.args.book.now c.args.calls.now most_marks ∙ sym c.requires.words_exact in
+    session_ran (bytes_of 4) c.args.book.now c.args.calls.now ran.result ran.ensures.answer (ran.ensures.words ∙ overlay_exact _ _ long) ran.ensures.masks
+    (c.write32.ensures ∙ bytes_overlay _ _) (c.write32-2.ensures ∙ bytes_overlay _ _)

@@ -11,7 +11,7 @@ use Rattle.settle_bytes.proofs.settle_out.Goals as goal
 
 pub returns : goal.returns
 returns c =
-    let settled = c.settle_exactly-answer in
+    let settled = c.settle_exactly-verdict in
     let words = settled.new.masks in
     let front = ap (λ (j : ℕ). bytes_of 4 words ++ drop j c.args.masks.now) (sym (length_bytes_of 4 words)) in
-    rw c.word.ensures (settles_wrote (bytes_of 4) _ settled.result settled.ensures (c.write32.ensures ∙ front))
+    settles_wrote (bytes_of 4) _ settled.result settled.ensures (c.write32.ensures ∙ front)

@@ -1,5 +1,5 @@
--- `slots::any_open` meets its contract. The invariant: no slot from the start on before block b is open; one block more: `block_closed`. The measure is
--- the blocks that are left. Assumes nothing.
+-- `slots::any_open` meets its contract. The invariant: no slot from the start on before block b is open; one block more: `block_closed`.
+-- Assumes nothing.
 use mathlib.Core.Path.{◌≡◌}
 use mathlib.Core.Bool.{true≢false}
 use mathlib.Core.Logic.{dite}
@@ -12,20 +12,11 @@ use Rattle.slots.proofs.any_open.Goals as goal
 pub loop-b-init : goal.loop-b-init
 loop-b-init c = (omega arith, λ s start≤s before. absurd (omega arith))
 
-pub overflow_add-end : goal.overflow_add-end
-overflow_add-end c = omega (arith, c.requires)
-
 pub word-requires : goal.word-requires
 word-requires c = let pre = c.requires in omega (arith, pre.0, pre.1, pre.2, pre.3, c.loop-b-test.true)
 
 pub returns-then-word-ne0 : goal.returns-then-word-ne0
 returns-then-word-ne0 c = λ is. absurd (true≢false is)
-
-pub overflow_add-b : goal.overflow_add-b
-overflow_add-b c = omega (arith, c.requires, c.loop-b-test.true)
-
-pub loop-b-smaller : goal.loop-b-smaller
-loop-b-smaller c = omega (arith, c.loop-b-test.true)
 
 pub loop-b-preserved : goal.loop-b-preserved
 loop-b-preserved c =

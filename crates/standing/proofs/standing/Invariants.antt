@@ -1,4 +1,5 @@
 -- What each turn of `standing::standing` keeps, and what falls from turn to turn.
+-- A `for` loop needs no measure: this one refuses the wrong edit `count_never_ends`.
 use mathlib.Core.Path.{◌≡◌}
 use Prim.Native.Nat.{◌-◌, ◌≤◌}
 use Rattle.segments_model.specs.Cells.{standing_in}

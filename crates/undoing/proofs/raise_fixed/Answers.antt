@@ -8,7 +8,7 @@ pub open_slot-requires : goal.open_slot-requires
 open_slot-requires c = upper_bit refl _ c.single_value-w.ensures.1 c.requires
 
 pub raise_row-requires : goal.raise_row-requires
-raise_row-requires c = upper_row refl _ c.single_value-w.ensures.1 c.open_slot.ensures _ _ c.wide.ensures c.wide-2.ensures c.requires
+raise_row-requires c = upper_row refl _ c.single_value-w.ensures.1 c.open_slot.ensures _ _ refl refl c.requires
 
 pub returns : goal.returns
-returns c = upper_undone refl _ c.single_value-w.ensures.1 c.open_slot.ensures c.wide.ensures c.wide-2.ensures c.raise_row.ensures
+returns c = upper_undone refl _ c.single_value-w.ensures.1 c.open_slot.ensures refl refl c.raise_row.ensures

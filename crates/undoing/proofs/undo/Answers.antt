@@ -1,5 +1,5 @@
 -- `undoing::undo` meets its contract. The invariant of its loop: the strikes below i restore the old masks and cells from those at hand
--- (`Putting`). The measure is i. Each turn is `putting_step`. Assumes nothing.
+-- (`Putting`). Each turn is `putting_step`. Assumes nothing.
 use Rattle.undoing.proofs.UndoneLaws.{putting_start, putting_undoing, putting_step, putting_end}
 use Rattle.undoing.proofs.undo.Goals as goal
 

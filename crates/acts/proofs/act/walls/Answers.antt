@@ -14,7 +14,12 @@ pub standing_in-count-requires : goal.standing_in-count-requires
 standing_in-count-requires c = walls_row c.args.lower c.requires c.row_start-start.ensures
 
 pub overflow_cast-result : goal.overflow_cast-result
-overflow_cast-result c = let most : c.standing_in-count.result ≤ c.args.n = walls_most (gaps (part c.row_start-start.result (c.args.n + 2) c.args.cells.now)) c.args.n c.standing_in-count.result c.standing_in-count.ensures in omega (arith, most, c.requires.slots_fit)
+overflow_cast-result c =
+    let cells = part c.row_start-start.result (c.args.n + 2) c.args.cells.now in
+    let most : c.standing_in-count.result ≤ c.args.n = walls_most (gaps cells) c.args.n c.standing_in-count.result c.standing_in-count.ensures in
+    omega (arith, most, c.requires.slots_fit)
 
 pub returns : goal.returns
-returns c = walls_stand c.args.lower (sym c.is_shut.ensures ∙ c.if-is_shut.false) c.requires.value_in c.standing_in-count.result c.row_start-start.result c.row_start-start.ensures c.standing_in-count.ensures
+returns c =
+    walls_stand c.args.lower (sym c.is_shut.ensures ∙ c.if-is_shut.false) c.requires.value_in c.standing_in-count.result c.row_start-start.result
+    c.row_start-start.ensures c.standing_in-count.ensures

@@ -1,34 +1,23 @@
--- `csv_import::fields::more` meets its contract: a value of fewer than five digits has room for one more (`fits_small`, `fits_more`). Assumes nothing.
+-- `csv_import::fields::more` meets its contract: a digit goes behind fewer than five, and anything else makes the content no number. Assumes nothing.
+use mathlib.Core.Path.{◌≡◌, refl}
 use Prim.Native.Nat.{◌-◌}
-use mathlib.Core.Path.{refl}
-use Rattle.csv_import.proofs.FieldLaws.{fits_small, fits_more, fits_none, more_digit, more_many, more_high, more_low}
 use native.Mathlib.Omega.{arith}
+use Rattle.csv_import.proofs.FieldLaws.{fits_more, fits_none, more_digit, more_many, more_high, more_low}
 use Rattle.csv_import.proofs.fields.more.Goals as goal
-
-pub overflow_mul-result : goal.overflow_mul-result
-overflow_mul-result c = omega (arith, fits_small c.requires c.if-figure-lt-DIGITS_MOST.true)
-
-pub overflow_add-result-then-figure-lt-DIGITS_MOST : goal.overflow_add-result-then-figure-lt-DIGITS_MOST
-overflow_add-result-then-figure-lt-DIGITS_MOST c = omega (arith, fits_small c.requires c.if-figure-lt-DIGITS_MOST.true)
+use Rattle.csv_import.proofs.fields.more.Goals.{else-b-ge-ZERO-via-then-b-ge-ZERO+then-b-le-NINE+else-figure-lt-DIGITS_MOST}
+use Rattle.csv_import.proofs.fields.more.Goals.{else-b-ge-ZERO-via-then-b-ge-ZERO+else-b-le-NINE, else-b-ge-ZERO-via-else-b-ge-ZERO}
 
 pub returns-then-figure-lt-DIGITS_MOST : goal.returns-then-figure-lt-DIGITS_MOST
 returns-then-figure-lt-DIGITS_MOST c =
-    let high = c in
-    let start = high in
-    let digit = more_digit start.args.figure start.args.b high.if-b-ge-ZERO.true high.if-b-le-NINE.true c.if-figure-lt-DIGITS_MOST.true in
-    (digit, fits_more (start.args.b - 48) start.requires (omega arith) refl refl)
+    let digit = more_digit c.args.figure c.args.b c.if-b-ge-ZERO.true c.if-b-le-NINE.true c.if-figure-lt-DIGITS_MOST.true in
+    let value : c.from.result ≡ c.args.b - 48 = c.from.ensures in
+    (rw value digit, fits_more c.from.result c.requires (omega arith) refl refl)
 
-pub returns-else-figure-lt-DIGITS_MOST : goal.returns-else-figure-lt-DIGITS_MOST
-returns-else-figure-lt-DIGITS_MOST c =
-    let args = c.args in
-    (more_many args.figure args.b c.if-figure-lt-DIGITS_MOST.false, fits_none)
-
-pub returns-else-b-le-NINE : goal.returns-else-b-le-NINE
-returns-else-b-le-NINE c =
-    let args = c.args in
-    (more_high args.figure args.b c.if-b-le-NINE.false, fits_none)
-
-pub returns-else-b-ge-ZERO : goal.returns-else-b-ge-ZERO
-returns-else-b-ge-ZERO c =
-    let args = c.args in
-    (more_low args.figure args.b c.if-b-ge-ZERO.false, fits_none)
+pub returns : goal.returns
+returns c =
+    elim c.else-b-ge-ZERO.branch [
+      | else-b-ge-ZERO-via-then-b-ge-ZERO+then-b-le-NINE+else-figure-lt-DIGITS_MOST w ↦
+          (more_many c.args.figure c.args.b w.if-figure-lt-DIGITS_MOST.false, fits_none)
+      | else-b-ge-ZERO-via-then-b-ge-ZERO+else-b-le-NINE w ↦ (more_high c.args.figure c.args.b w.if-b-le-NINE.false, fits_none)
+      | else-b-ge-ZERO-via-else-b-ge-ZERO w ↦ (more_low c.args.figure c.args.b w.if-b-ge-ZERO.false, fits_none)
+    ]

@@ -1,41 +1,25 @@
--- `csv_import::passes::test_later` meets its contract. The loop's invariant: the first fault from here is the first of all, the records counted and left
--- are all, and so are the rows that were tested and those left (`Testing`). The measure is what is left of the text; a turn is `testing_more`. Assumes nothing.
-use Rattle.csv_import.proofs.PassLaws.{next_further, testing_start, testing_more, testing_refused, testing_all}
+-- `csv_import::passes::test_later` meets its contract. The loop's invariant: what the records from here say is what all say (`Testing`). The measure is how
+-- many bytes are left. Assumes nothing.
+use mathlib.Core.Path.{ap, ◌∙◌}
 use Prim.Native.Nat.{ℕ}
-use mathlib.Core.Path.{sym, ap, ◌∙◌}
-use Rattle.book.specs.Refusal.{◌or_else◌}
 use native.Mathlib.Omega.{arith}
+use Rattle.std.proofs.Common.{rules}
+use Rattle.book.specs.Refusal.{number_of, ◌or_else◌}
+use Rattle.csv_import.proofs.PassLaws.{testing_refused, testing_more, testing_all, next_further}
 use Rattle.csv_import.proofs.passes.test_later.Goals as goal
 
-pub loop-at-init : goal.loop-at-init
-loop-at-init c = testing_start c.requires
-
-pub read_record-read-requires : goal.read_record-read-requires
-read_record-read-requires c = c.loop-at.invariant.inside
-
-pub returns-then-number-ne0 : goal.returns-then-number-ne0
-returns-then-number-ne0 c =
-    let read = c in
-    let turn = read in
-    testing_refused turn.loop-at.invariant turn.loop-at-test.true read.read_record-read.ensures c.fault-number.ensures c.if-number-ne0.true
-
-pub overflow_add-rows : goal.overflow_add-rows
-overflow_add-rows c =
-    let turn = c in
-    omega (arith, turn.loop-at.invariant.few, turn.loop-at-test.true)
+pub returns-in_err-read : goal.returns-in_err-read
+returns-in_err-read c =
+    let told = testing_refused c.loop-at.invariant c.loop-at-test.true c.in_err-read.field-0.0 c.in_err-read.ensures in
+    search (rules, told)
 
 pub loop-at-smaller : goal.loop-at-smaller
-loop-at-smaller c =
-    let read = c in
-    omega (arith, next_further read.loop-at-test.true read.read_record-read.ensures, read.read_record-read.ensures.inside)
+loop-at-smaller c = omega (arith, next_further c.loop-at-test.true c.in_ok-read.ensures.0, c.in_ok-read.ensures.0.inside)
 
 pub loop-at-preserved : goal.loop-at-preserved
 loop-at-preserved c =
-    let passed = c in
-    let read = passed in
-    let turn = read in
-    testing_more turn.loop-at.invariant turn.loop-at-test.true read.read_record-read.ensures (sym passed.fault-number.ensures ∙ passed.if-number-ne0.false)
-    (c.first_of-refused.ensures ∙ ap (λ (y : ℕ). c.loop-at.refused or_else y) c.row_fault.ensures)
+    testing_more c.loop-at.invariant c.loop-at-test.true c.in_ok-read.ensures
+    (c.first_of-refused.ensures ∙ ap (λ (y : ℕ). number_of c.loop-at.refused or_else y) c.check_row.ensures)
 
 pub returns : goal.returns
-returns c = testing_all c.loop-at-test.false c.loop-at.invariant
+returns c = testing_all (omega arith) c.loop-at.invariant

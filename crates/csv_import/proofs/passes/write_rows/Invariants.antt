@@ -1,7 +1,7 @@
 -- What each turn of `csv_import::passes::write_rows` keeps, and what falls from turn to turn.
-use Rattle.csv_import.proofs.PassLaws.{Writing}
-use lib.ListN.{length}
 use Prim.Native.Nat.{◌-◌}
+use lib.ListN.{length}
+use Rattle.csv_import.proofs.PassLaws.{Writing}
 use Rattle.csv_import.proofs.passes.write_rows.Given as goal
 
 abbrev pub invariant-loop-at : goal.invariant-loop-at

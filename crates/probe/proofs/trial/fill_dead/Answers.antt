@@ -16,18 +16,6 @@ loop-i-preserved c =
 pub loop-i-init : goal.loop-i-init
 loop-i-init c = (omega arith, filled_none (λ j. 1) _)
 
-pub bounds-dead-i : goal.bounds-dead-i
-bounds-dead-i c = omega (arith, c.loop-i-test.true, c.requires, c.loop-i.invariant.1.long)
-
-pub overflow_step-i : goal.overflow_step-i
-overflow_step-i c = omega (arith, c.loop-i-test.true)
-
-pub loop-i-smaller : goal.loop-i-smaller
-loop-i-smaller c = omega (arith, c.loop-i-test.true)
-
-pub shape_of-dead : goal.shape_of-dead
-shape_of-dead c = c.loop-i.invariant.1.long
-
 pub returns : goal.returns
 returns c =
     let count = c.args.count in

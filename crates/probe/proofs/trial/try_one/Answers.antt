@@ -8,22 +8,16 @@ pub fix-code-requires : goal.fix-code-requires
 fix-code-requires c = trying_ready c.requires
 
 pub undo-requires : goal.undo-requires
-undo-requires c =
-    let fixed = c in
-    rw c.height.ensures (tried_undoable fixed.requires _ fixed.fix-code.ensures)
+undo-requires c = rw c.height.ensures (tried_undoable c.requires _ c.fix-code.ensures)
 
 -- dead
 pub returns-then-is_dead : goal.returns-then-is_dead
 returns-then-is_dead c =
-    let undone = c in
-    let fixed = undone in
-    let done = trial_tried fixed.requires _ fixed.fix-code.ensures (rw undone.height.ensures at undone.undo.ensures) in
+    let done = trial_tried c.requires _ c.fix-code.ensures (rw c.height.ensures at c.undo.ensures) in
     rw (sym c.is_dead.ensures, c.if-is_dead.true) at done
 
 -- live
 pub returns : goal.returns
 returns c =
-    let undone = c in
-    let fixed = undone in
-    let done = trial_tried fixed.requires _ fixed.fix-code.ensures (rw undone.height.ensures at undone.undo.ensures) in
+    let done = trial_tried c.requires _ c.fix-code.ensures (rw c.height.ensures at c.undo.ensures) in
     rw (sym c.is_dead.ensures, c.if-is_dead.false) at done

@@ -1,6 +1,0 @@
--- What each turn of `plain::tables::close` keeps, and what falls from turn to turn.
-use Prim.Native.Nat.{◌-◌}
-use Rattle.plain.proofs.tables.close.Given as goal
-
-abbrev pub decreases-loop-round : goal.decreases-loop-round
-decreases-loop-round l = 10000 - l.round
