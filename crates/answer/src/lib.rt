@@ -44,7 +44,7 @@ impl From<Refusal> for u32 {
     }
 }
 
-// The number of an answer, as the exported entries return it.
+// The number of an answer, as the exported entries return it. A function and no `From`: neither Result nor u32 is a type of this crate.
 pub fn word(answer: Result<Verdict, Refusal>) -> u32
     ensures { result ≡ word_of answer }
 {

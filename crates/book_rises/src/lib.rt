@@ -9,7 +9,8 @@ use book::{slots, values};
 use closing::{close_exactly, table_size};
 use rises::write_rises;
 
-// Whether a good book closes; if so, the fronts of the two slices hold the rises of its lowers and uppers. The tables have 32 · 257 entries.
+// Whether a good book closes, a bool as `NotesRises` reads it; if so, the fronts of the two slices hold the rises of its lowers and uppers. The tables
+// have 32 · 257 entries, a number and no name, as tools/closing_arrays.py looks for it.
 pub fn closed_rises(book: &[u8], lower_rises: &mut [u32], upper_rises: &mut [u32]) -> bool
     requires { RisesRoom book.now lower_rises.old upper_rises.old }
     ensures { NotesRises book.now lower_rises.old upper_rises.old

@@ -22,7 +22,7 @@ use closing::{close_exactly, table_size};
 use entries_model::FULL_LIMITS;
 use reader::read;
 
-// Room for the lowers, or the uppers, of 256 slots and 32 types.
+// Room for the lowers, or the uppers, of 256 slots and 32 types; here and not shared, as tools/closing_arrays.py looks for it.
 const TABLE: usize = 8224;
 
 // Writes the canonical book of book into the front of out.

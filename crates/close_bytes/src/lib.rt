@@ -16,7 +16,8 @@ pub fn close(book: &[u8], lowers: &mut [u8], uppers: &mut [u8]) -> u32
     word(close_into(book, lowers, uppers))
 }
 
-// The same, before the answer is a word. The table is closed in two arrays of 32 · 257 entries, and written out.
+// The same, before the answer is a word. The table is closed in two arrays of 32 · 257 entries (a number, as
+// tools/closing_arrays.py looks for it), and written out.
 fn close_into(book: &[u8], lowers: &mut [u8], uppers: &mut [u8]) -> Result<Verdict, Refusal>
     ensures { CloseEntry book.now lowers.old uppers.old (word_of result) lowers.new uppers.new }
 {

@@ -30,7 +30,7 @@ pub struct Part {
 #[derive(Clone, Copy)]
 pub struct Tally {
     pub count: usize,
-    // one of them is no number, at its place
+    // one of them is no number, at its place: a flag, since `added` and `tallied` of specs/Read.antt read it beside the row
     pub bad: bool,
     // the last four numbers, as a row
     pub last: Row,

@@ -36,6 +36,7 @@ pub fn read_record(text: &[u8], from: usize) -> Result<Read, Refusal>
 {
     let mut at = from;
     let mut tally = no_fields();
+    // a `loop`: only a field that is read says whether another follows, and where
     loop {
         let part = field(text, at)?;
         tally = add(tally, part.figure);

@@ -14,6 +14,7 @@ pub fn read_full<R: Read>(input: &mut R, buf: &mut [u8]) -> usize
     ensures bytes { Consumes (R.remaining input.old) (R.remaining input.new) (take result buf.new) }
 {
     let mut filled = 0;
+    // a turn for each byte at most, whatever the reads give
     for _ in 0..buf.len() {
         match input.read(&mut buf[filled..]) {
             Ok(0) | Err(_) => break,

@@ -3,11 +3,12 @@ ghost use Rattle.std.specs.Prelude.{◌≡◌, ◌++◌, ◌≤◌, length, drop
 ghost use Rattle.probe.specs.Trial.{Trying, Tried, AllTrying, AllTried};
 
 use crate::listed::{slot_in, value_in};
+use filling::fill;
 use filter::fix;
 use outcomes::{height, is_dead};
 use undoing::undo;
 
-// The byte of a call whose assignment dies, and of one whose assignment lives.
+// The byte of a call whose assignment dies, and of one whose assignment lives: numbers, since they are what a host in C reads.
 const DIES: u8 = 1;
 
 const LIVES: u8 = 0;
@@ -26,6 +27,7 @@ pub fn try_all(
     requires { AllTrying calls.now dead.old masks.old cells.old trail.old n k top }
     ensures { AllTried calls.now n k masks.old cells.old dead.old dead.new }
 {
+    // by the calls' numbers: a call is four bytes of the list
     for i in 0..calls.len() / 4 {
         let slot = slot_in(calls, i);
         let v = value_in(calls, i) as u32;
@@ -60,7 +62,5 @@ pub fn fill_dead(dead: &mut [u8], count: usize)
     requires { count ≤ length dead.old }
     ensures { dead.new ≡ replicate count 1 ++ drop count dead.old }
 {
-    for i in 0..count {
-        dead[i] = DIES;
-    }
+    fill(&mut dead[..count], DIES);
 }

@@ -4,7 +4,7 @@
 
 use acts::Session;
 
-// A session after a list of calls, and whether it opened live.
+// A session after a list of calls, and whether it opened live: a bool, since that is told of every session, and none of it hangs on the flag.
 #[derive(Clone, Copy)]
 pub struct Ended {
     pub session: Session,

@@ -40,7 +40,7 @@ pub fn settle_exactly(book: &[u8], masks: &mut [u32]) -> Verdict
     Verdict::Dead
 }
 
-// Whether a good book settles; if so, masks holds what its masks settle to. The arrays have room for 256 slots and 32 values.
+// Whether a good book settles, a bool as `settled_by` reads it; if so, masks holds what its masks settle to. The arrays have room for 256 slots and 32 values.
 fn settles(book: &[u8], masks: &mut [u32]) -> bool
     requires { Ready book.now masks.old }
     ensures { settled_book book.now ≡ settled_by result masks.new }
