@@ -92,12 +92,15 @@ fn previous_turn(rises: &[u32], v: u32, t: usize) -> usize
     requires { (0 < t) × (t < length rises.now) × (v < 32) }
     ensures { PreviousTurn rises.now v t result }
 {
-    for i in (1..t).rev() {
+    // a `while`: this loop is the longest of an opening, and a range walked backwards, which was tried, takes an instruction more at each step
+    let mut i = t - 1;
+    while 0 < i {
         if rise(rises, i, v) != rise(rises, i + 1, v) {
             return i;
         }
+        i -= 1;
     }
-    0
+    i
 }
 
 // By how much the line grows at t.

@@ -74,7 +74,10 @@ pub fn point(cells: &mut [u16], from: usize, next: usize)
     requires { (from ≤ next) × (next ≤ length cells.old) × (next ≤ 1024) }
     ensures { Pointed from next next cells.old cells.new }
 {
+    // counted down in its own 16 bits, so that several links are stored at once
+    let mut c = (1023 + (next - from)) as u16;
     for i in from..next {
-        cells[i] = (1023 + (next - i)) as u16;
+        cells[i] = c;
+        c -= 1;
     }
 }
