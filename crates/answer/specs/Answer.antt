@@ -1,6 +1,7 @@
 -- The number of each refusal, and of each answer of an entry.
 --   number_of r    the number of a refusal, 1 to 19
---   word_of a      0 for live (of check: a good book), 1 for dead, 256 + the number of a refusal
+--   word_by f a    the word of an answer whose refusals have the numbers that f gives: 0 for live (of check: a good book), 1 for dead, 256 + that number
+--   word_of a      the same for the refusals above
 -- Assumes nothing.
 use Rattle.std.specs.Prelude.{ℕ, ◌+◌, Result, Ok, Err}
 use Rattle.answer.specs.declared.Refusal.{Refusal}
@@ -29,7 +30,10 @@ number_of Quoting = 17
 number_of Field = 18
 number_of TooManyRows = 19
 
+abbrev pub word_by : {R : Type 0} → (R → ℕ) → Result Verdict R → ℕ
+word_by number (Ok Live) = 0
+word_by number (Ok Dead) = 1
+word_by number (Err refusal) = 256 + number refusal
+
 abbrev pub word_of : Result Verdict Refusal → ℕ
-word_of (Ok Live) = 0
-word_of (Ok Dead) = 1
-word_of (Err refusal) = 256 + number_of refusal
+word_of answer = word_by number_of answer

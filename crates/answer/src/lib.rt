@@ -2,8 +2,8 @@
 // an answer.
 #![tactic(auto)]
 
-ghost use Rattle.std.specs.Prelude.{◌≡◌};
-ghost use Rattle.answer.specs.Answer.{number_of, word_of};
+ghost use Rattle.std.specs.Prelude.{◌≡◌, ℕ};
+ghost use Rattle.answer.specs.Answer.{number_of, word_by};
 
 // What an entry finds that refuses nothing.
 #[derive(Clone, Copy, PartialEq, Eq)]
@@ -44,13 +44,38 @@ impl From<Refusal> for u32 {
     }
 }
 
-// The number of an answer, as the exported entries return it. A function and no `From`: neither Result nor u32 is a type of this crate.
-pub fn word(answer: Result<Verdict, Refusal>) -> u32
-    ensures { result ≡ word_of answer }
+// What an answer may tell a refusal by: the refusal, or any number of 8 bits.
+pub trait Number: Copy {
+    ghost number: { Self → ℕ };
+
+    fn number(self) -> u8
+        ensures { result ≡ number self };
+}
+
+impl Number for Refusal {
+    ghost number = { number_of };
+
+    fn number(self) -> u8 {
+        self as u8
+    }
+}
+
+impl Number for u8 {
+    ghost number = { λ x. x };
+
+    fn number(self) -> u8 {
+        self
+    }
+}
+
+// The number of an answer, as the exported entries return it: of a refusal, `word_of` of specs/Answer.antt. A function and no `From`: neither Result nor
+// u32 is a type of this crate.
+pub fn word<Told: Number>(answer: Result<Verdict, Told>) -> u32
+    ensures { result ≡ word_by Told.number answer }
 {
     match answer {
         Ok(Verdict::Live) => 0,
         Ok(Verdict::Dead) => 1,
-        Err(refusal) => 256 + u32::from(refusal),
+        Err(told) => 256 + u32::from(told.number()),
     }
 }

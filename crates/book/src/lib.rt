@@ -4,7 +4,7 @@
 
 mod layout; // layout.rt: the numbers, masks and rows at their places
 
-ghost use Rattle.std.specs.Prelude.{◌≡◌};
+ghost use Rattle.std.specs.Prelude.{◌≡◌, ℕ, eqb};
 ghost use Rattle.book.specs.Refusal.{number_of, ◌or_else◌};
 
 use answer::Refusal;
@@ -28,10 +28,37 @@ pub struct Row {
     pub upper: usize,
 }
 
-// What two tests say, of which the first is asked first: its refusal, else that of the second.
-pub fn first_of(first: Result<(), Refusal>, second: Result<(), Refusal>) -> Result<(), Refusal>
-    ensures { number_of result ≡ number_of first or_else number_of second }
+// What a test says: a result, or its number alone, 0 where it refuses nothing.
+pub trait Said: Copy {
+    ghost number: { Self → ℕ };
+
+    // Whether it refuses nothing.
+    fn is_none(self) -> bool
+        ensures { result ≡ eqb (number self) 0 };
+}
+
+impl Said for Result<(), Refusal> {
+    ghost number = { number_of };
+
+    fn is_none(self) -> bool {
+        self.is_ok()
+    }
+}
+
+impl Said for u8 {
+    ghost number = { λ x. x };
+
+    fn is_none(self) -> bool {
+        self == 0
+    }
+}
+
+// What two tests say, of which the first is asked first: its refusal, else what the second says.
+pub fn first_of<Test: Said>(first: Test, second: Test) -> Test
+    ensures { Test.number result ≡ Test.number first or_else Test.number second }
 {
-    first?;
-    second
+    if first.is_none() {
+        return second;
+    }
+    first
 }
