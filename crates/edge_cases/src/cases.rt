@@ -8,7 +8,7 @@
 //   call kind type slot            a call at the list's end
 //   repeat c kind                  c calls of that kind there, with type 0 and slot 0
 //   trim x                         only the first x bytes of the list are lent
-ghost use Rattle.std.specs.Prelude.{◌≡◌, ◌<◌, length, take, MatchOption};
+ghost use Rattle.std.specs.Prelude.{◌≡◌, ◌<◌, length, replicate, take, MatchOption};
 
 use crate::bytes::{Call, HEADER, Row, byte, put, put_header, put_masks, put_row, short};
 use crate::scan::{Command, Line, Make, Step};
@@ -25,7 +25,7 @@ const BOOK_BYTES: usize = HEADER + 4 * SLOTS as usize + 8 * ROWS;
 
 const CALLS_BYTES: usize = 4 * 4097;
 
-#[derive(Drop)]
+#[derive(Clone, Copy)]
 pub struct Case {
     book: [u8; BOOK_BYTES],
     calls: [u8; CALLS_BYTES],
@@ -38,21 +38,34 @@ pub struct Case {
 }
 
 impl Case {
-    // What the line's words make.
-    pub fn build(line: Line<'_>) -> Case {
-        let mut case = Case {
+    // Zeros, of which nothing is lent.
+    pub fn blank() -> Case
+        ensures bytes { (result.book ≡ replicate 9236 0) × (result.calls ≡ replicate 16388 0) }
+        ensures numbers { (result.slots ≡ 0) × (result.length ≡ 0) × (result.listed ≡ 0) }
+    {
+        Case {
             book: [0; BOOK_BYTES],
             calls: [0; CALLS_BYTES],
             slots: 0,
             length: 0,
             listed: 0,
-        };
-        for step in line.steps() {
-            if let Some(Command::Make(make)) = step.command() {
-                case.apply(make, step);
-            }
         }
+    }
+
+    // What the line's words make.
+    pub fn build(line: Line<'_>) -> Case {
+        let mut case = Case::blank();
+        case.make(line);
         case
+    }
+
+    // Carries out each of the line's words that make, in place: a case is large, and is copied where it is returned.
+    pub fn make(&mut self, line: Line<'_>)
+        ensures { length line.entry.rest.now ≡ 0 → self.new ≡ self.old }
+    {
+        for step in line.steps() {
+            self.apply(step);
+        }
     }
 
     // The bytes of the book that are lent; None where it has fewer.
@@ -69,8 +82,11 @@ impl Case {
         self.calls.get(..self.listed)
     }
 
-    // Carries out a word.
-    fn apply(&mut self, make: Make, step: Step<'_>) {
+    // Carries out the step's word, if it is one that makes.
+    fn apply(&mut self, step: Step<'_>) {
+        let Some(Command::Make(make)) = step.command() else {
+            return;
+        };
         match make {
             Make::Sample => self.sample(),
             Make::Book => self.new_book(step),
@@ -159,10 +175,13 @@ impl Case {
         }
     }
 
-    // A call at the list's end, or at the last multiple of 4 before it.
+    // A call at the list's end, or at the last multiple of 4 before it; the list's room is a multiple of 4 too, so a call lies in it whole or not at all.
     fn push(&mut self, call: Call) {
         let end = self.listed % 65536;
-        put(&mut self.calls, end / 4 * 4, &call.to_bytes());
+        let at = end / 4 * 4;
+        if let Some(place) = self.calls.get_mut(at..at + 4) {
+            place.copy_from_slice(&call.to_bytes());
+        }
         self.listed = end + 4;
     }
 }

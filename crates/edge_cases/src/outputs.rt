@@ -36,4 +36,28 @@ impl Outputs {
             masks: [UNWRITTEN_WORD; MASKS],
         }
     }
+
+    // Zeros, for `clear`.
+    pub fn zeros() -> Outputs
+        ensures bounds { (result.lowers ≡ replicate 8225 0) × (result.uppers ≡ replicate 8225 0) }
+        ensures others { (result.words ≡ replicate 8194 0) × (result.masks ≡ replicate 257 0) }
+    {
+        Outputs {
+            lowers: [0; BOUNDS],
+            uppers: [0; BOUNDS],
+            words: [0; WORDS],
+            masks: [0; MASKS],
+        }
+    }
+
+    // Makes them outputs of which nothing was written, in place: they are large, and those of `unwritten` are copied where it returns.
+    pub fn clear(&mut self)
+        ensures bounds { (self.new.lowers ≡ replicate 8225 9999) × (self.new.uppers ≡ replicate 8225 9999) }
+        ensures others { (self.new.words ≡ replicate 8194 9999) × (self.new.masks ≡ replicate 257 9999) }
+    {
+        self.lowers.fill(UNWRITTEN);
+        self.uppers.fill(UNWRITTEN);
+        self.words.fill(UNWRITTEN_WORD);
+        self.masks.fill(UNWRITTEN_WORD);
+    }
 }

@@ -30,8 +30,8 @@ impl Outputs {
     }
 
     fn show_kept(&self, out: &mut impl Write) -> io::Result<()> {
-        show_number(out, count(&self.lowers, UNWRITTEN_WORD))?;
-        show_number(out, count(&self.uppers, UNWRITTEN_WORD))?;
+        show_number(out, count(&self.lowers, UNWRITTEN))?;
+        show_number(out, count(&self.uppers, UNWRITTEN))?;
         show_number(out, count(&self.words, UNWRITTEN_WORD))?;
         show_number(out, count(&self.masks, UNWRITTEN_WORD))
     }
@@ -53,16 +53,25 @@ fn show_elements<T: Copy + Into<u32>>(
 fn show_calls(out: &mut impl Write, words: &[u32], step: Step<'_>) -> io::Result<()> {
     for i in step.number(1)..step.number(2) {
         match words.get(2 * i as usize..) {
-            Some([first, second, ..]) => write!(out, " ({} {})", Shown(*first), Shown(*second))?,
+            Some([first, second, ..]) => show_call(out, *first, *second)?,
             _ => out.write_all(b" (0)")?,
         }
     }
     Ok(())
 }
 
+// The two words of a call. Text and numbers apart, here and below: a format of both takes half as long again.
+fn show_call(out: &mut impl Write, first: u32, second: u32) -> io::Result<()> {
+    out.write_all(b" (")?;
+    write!(out, "{}", Shown(first))?;
+    show_number(out, second)?;
+    out.write_all(b")")
+}
+
 // A space and a number.
 pub fn show_number(out: &mut impl Write, x: u32) -> io::Result<()> {
-    write!(out, " {}", Shown(x))
+    out.write_all(b" ")?;
+    write!(out, "{}", Shown(x))
 }
 
 // A number as it is printed, - for what was not written.
@@ -85,10 +94,15 @@ fn element<T: Copy + Into<u32>>(a: &[T], i: usize) -> u32 {
     a.get(i).copied().map_or(0, |x| x.into())
 }
 
-// How many elements are x; as many as fit in 32 bits.
-fn count<T: Copy + Into<u32>>(a: &[T], x: u32) -> u32 {
-    let equal = a.iter().copied().filter(|y| (*y).into() == x).count();
-    u32::try_from(equal).unwrap_or(u32::MAX)
+// How many elements are x; it fits. A loop, since `filter` and `count` were tried, and nearly double what the word costs.
+fn count<T: Copy + PartialEq>(a: &[T], x: T) -> u32 {
+    let mut total = 0u32;
+    for y in a {
+        if *y == x {
+            total = total.wrapping_add(1);
+        }
+    }
+    total
 }
 
 // The sum of the elements that were written; it fits.

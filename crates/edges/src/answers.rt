@@ -22,7 +22,8 @@ pub struct Inputs<'a> {
 impl<'a> Inputs<'a> {
     // Carries out each word of the line that runs an entry or prints what it wrote.
     pub fn run_line(self, out: &mut impl Write, line: Line<'_>) -> io::Result<()> {
-        let mut outputs = Outputs::unwritten();
+        let mut outputs = Outputs::zeros();
+        outputs.clear();
         for step in line.steps() {
             match step.command() {
                 Some(Command::Run(entry)) => self.run(out, entry, step, &mut outputs)?,

@@ -33,8 +33,9 @@ fn run_lines(out: &mut impl Write, text: &[u8]) -> io::Result<()> {
 
 // Prints the name, makes book and calls, runs the entries on what is lent of them.
 fn run_line(out: &mut impl Write, line: Line<'_>) -> io::Result<()> {
+    let mut case = Case::blank();
     out.write_all(line.name)?;
-    let case = Case::build(line);
+    case.make(line);
     match (case.book(), case.calls()) {
         (Some(book), Some(calls)) => Inputs { book, calls }.run_line(out, line),
         _ => Ok(()),

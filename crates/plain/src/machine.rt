@@ -104,7 +104,7 @@ pub struct Opened {
 }
 
 // A session between two calls.
-#[derive(Drop)]
+#[derive(Clone, Copy)]
 pub struct Session<'a> {
     size: Size,
     // the idle type
