@@ -26,10 +26,7 @@ pub fn field(text: &[u8], at: usize) -> Result<Part, Refusal>
     requires { at ≤ length text.now }
     ensures { PartOf (Csv.field (drop at text.now)) text.now result }
 {
-    if at == text.len() {
-        return bare(text, at);
-    }
-    if text[at] == QUOTE {
+    if at < text.len() && text[at] == QUOTE {
         return quoted(text, at + 1);
     }
     bare(text, at)
