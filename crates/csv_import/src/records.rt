@@ -30,6 +30,7 @@ pub fn read_good(text: &[u8], from: usize, fields: usize) -> Result<Read, Refusa
 }
 
 // The record that begins at a place: refused by 17.
+#[tactic(auto, using(crate::proofs::RecordLaws::counting_broken))]
 pub fn read_record(text: &[u8], from: usize) -> Result<Read, Refusal>
     requires { from ≤ length text.now }
     ensures { ReadOf (record_of (drop from text.now)) text.now result }

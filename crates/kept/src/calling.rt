@@ -1,4 +1,6 @@
 // One call on a kept session, without lists. The contracts cite kept_model's `specs/Kept.antt` and `specs/Entries.antt`.
+ghost use Rattle.std.specs.Prelude.{◌≡◌};
+ghost use Rattle.calls.specs.Given.{call_given};
 ghost use Rattle.session_model.specs.Calls.{call_of};
 ghost use Rattle.kept_model.specs.Entries.{KeptCalls};
 ghost use Rattle.kept_model.specs.Kept.{Kept};
@@ -38,7 +40,7 @@ pub fn call(
     let types = number_at(numbers, TYPES);
     let k = types as u32;
     let session = session_in(numbers);
-    let call = Call::new(kind, value, slot as usize);
+    let call = numbered(kind, value, slot);
     let stepped = step_alone(
         &mut masks[..n],
         cells,
@@ -56,4 +58,12 @@ pub fn call(
         first: stepped.first,
         second: stepped.second,
     }
+}
+
+// The call of a kind, a type and a slot of any numbers: a kind above 7 is unknown, as 0 is.
+#[tactic(auto, using(session_model::proofs::CallsLaws::call_of_unknown), unfolding(session_model::specs::Calls::call_of))]
+fn numbered(kind: u32, value: u32, slot: u32) -> Call
+    ensures { call_given result ≡ call_of kind value slot }
+{
+    Call::new(kind, value, slot as usize)
 }

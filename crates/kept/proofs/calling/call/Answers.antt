@@ -30,7 +30,7 @@ pub returns : goal.returns
 returns c =
     let done = c.step_alone-stepped in
     let long = length-take-le _ _ (kept_inside c.requires.kept c.number_at-n.ensures) in
-    rw (← c.new-call.ensures, overlay_front _ done.new.masks c.args.masks.now (done.auto.masks ∙ long))
+    rw (← c.numbered-call.ensures, overlay_front _ done.new.masks c.args.masks.now (done.auto.masks ∙ long))
     (call_done _ c.args.masks.now c.args.cells.now c.args.trail.now c.args.heights.now c.args.numbers.now c.number_at-n.ensures
     c.number_at-types.ensures c.number_at-made.ensures c.session_in-session.ensures c.if-made-ge-MOST_CALLS.false done.ensures done.auto.cells
     done.auto.trail done.auto.heights c.write_numbers.ensures)
