@@ -10,7 +10,7 @@ use acts::{Session, Stepped, back, mark, show, walls};
 use calls::Call;
 use deciding::decide;
 
-// Call i of a list, where no number refuses it.
+// Call i of a list, where no number refuses it. The arms that only ask return: in the match's value the session would be put together anew at each call.
 pub fn perform(
     masks: &mut [u32],
     cells: &mut [u16],
@@ -36,9 +36,9 @@ pub fn perform(
         ),
         Call::Mark => mark(heights, session),
         Call::Back => back(masks, cells, trail, heights, n, k, session),
-        Call::Show { slot } => show(masks, session, slot),
-        Call::UpperWalls { value } => walls(cells, n, k, session, false, value),
-        Call::LowerWalls { value } => walls(cells, n, k, session, true, value),
+        Call::Show { slot } => return show(masks, session, slot),
+        Call::UpperWalls { value } => return walls(cells, n, k, session, false, value),
+        Call::LowerWalls { value } => return walls(cells, n, k, session, true, value),
         Call::Unknown => unreachable!(),
     }
 }
